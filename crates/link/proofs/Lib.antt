@@ -1,0 +1,8 @@
+pub mod Rows
+pub mod Fills
+pub mod Finds
+pub mod Fronts
+pub mod Opens
+pub mod Shifts
+pub mod Progress
+pub mod Running

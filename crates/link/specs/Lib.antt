@@ -1,0 +1,4 @@
+pub mod Fixing
+pub mod Faults
+pub mod Streams
+pub mod Views

@@ -1,0 +1,26 @@
+-- What the structs and the answers of the code stand for.
+use Prim.Native.Nat.{ℕ}
+use mathlib.Core.List.{List}
+use lib.ListN.{take, drop}
+use Rattle.fixes.specs.Views.{boardOf}
+use Rattle.paging.specs.Views.{heldOf}
+use Rattle.protocol.specs.Links as model
+use Rattle.link.specs.declared.held.HeldBytes.{HeldBytes}
+use Rattle.link.specs.declared.link.Link.{Link}
+use Rattle.link.specs.declared.answer.Answer.{Answer}
+use Rattle.link.specs.declared.answer.Answer.the-variants.{Idle, Signal, Page, Report, Other, Refused}
+use Rattle.link.specs.Faults.{linkRefusal, readingIn}
+
+abbrev pub heldIn : HeldBytes → List ℕ
+heldIn h = drop (h .start) (take (h .end) (h .bytes))
+
+abbrev pub answerOf : Answer → model.Answer
+answerOf (Idle n) = model.idle n
+answerOf (Signal b) = model.signal b
+answerOf (Page t n total) = model.page t n total
+answerOf (Report t k n r) = model.report t k n (readingIn r)
+answerOf (Other s t n) = model.other s t n
+answerOf (Refused f) = model.refused (linkRefusal f)
+
+abbrev pub stateOf : {X Y : Type 0} → Link X Y → model.Link
+stateOf l = record { held = heldIn (l .held); inStep = l .«in_step»; first = heldOf (l .first); second = heldOf (l .second); board = boardOf (l .board) }

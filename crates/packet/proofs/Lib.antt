@@ -1,0 +1,5 @@
+pub mod Sums
+pub mod Bytes
+pub mod Fronts
+pub mod Writes
+pub mod Rewriting

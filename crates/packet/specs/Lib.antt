@@ -1,0 +1,5 @@
+pub mod Bytes
+pub mod Packets
+pub mod Reads
+pub mod Writes
+pub mod Laws

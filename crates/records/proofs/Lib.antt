@@ -1,0 +1,3 @@
+pub mod Surveys
+pub mod BestSignals
+pub mod Applications

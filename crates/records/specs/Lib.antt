@@ -1,0 +1,9 @@
+pub mod Faults
+pub mod Numbers
+pub mod Positions
+pub mod Surveys
+pub mod SurveyCursors
+pub mod Signals
+pub mod Applications
+pub mod ApplicationCursors
+pub mod Readings
