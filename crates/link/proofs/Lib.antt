@@ -1,6 +1,3 @@
-pub mod Rows
-pub mod Fills
-pub mod Finds
 pub mod Fronts
 pub mod Opens
 pub mod Shifts

@@ -15,12 +15,12 @@ use Rattle.packet.specs.declared.read.PacketFault.{PacketFault}
 use Rattle.packet.specs.declared.read.PacketFault.the-variants.{NoEnd, WrongSum}
 use Rattle.packet.specs.declared.read.Start.the-variants.{Broken}
 use Rattle.paging.specs.Schemes.{Scheme}
-use Rattle.paging.specs.Joining.{Held, Collected, collected}
+use Rattle.joining.specs.Joining.{Held, Collected, collected}
 use Rattle.protocol.specs.Links.{Answer, Link, idle, other, refused, Reading, Fixing, Entering}
 use Rattle.fixes.specs.declared.fix.Fix.{Fix}
 use Rattle.protocol.specs.Pulls.{Event, Pull, Outcome, partial, broken, packet, at-start, left, holding, answer-to, board-after, written-by, routed, done, outcome-of, put}
-use Rattle.link.specs.Streams.{Joint, joint, Route, route, opened}
-use Rattle.link.proofs.Fills.{Filled}
+use Rattle.link.specs.Routes.{Joint, joint, Route, route, opened}
+use Rattle.held.proofs.Fills.{Filled}
 use Rattle.link.proofs.Fronts.{front-seen, size-seen, short-length, lawful-size}
 
 -- what waits still, by what waited

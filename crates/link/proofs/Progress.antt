@@ -15,7 +15,8 @@ use Rattle.paging.specs.Schemes.{Scheme}
 use Rattle.protocol.specs.Links.{Answer, Link, idle, Reading, Fixing, Entering}
 use Rattle.fixes.specs.declared.fix.Fix.{Fix}
 use Rattle.protocol.specs.Pulls.{Event, Outcome, empty, partial, sign, broken, packet, found, left, done, outcome-of, pull-full, pulled}
-use Rattle.link.specs.Streams.{passed, route}
+use Rattle.held.specs.Streams.{passed}
+use Rattle.link.specs.Routes.{route}
 use Rattle.link.proofs.Opens.{by-route, routed-is}
 
 -- how many bytes an outcome leaves, held and waiting

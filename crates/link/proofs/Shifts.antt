@@ -15,12 +15,13 @@ use Rattle.std.specs.declared.option.Option.the-variants.{Some, None}
 use Rattle.refusal.specs.declared.Refusal.{Refusal}
 use Rattle.packet.specs.Packets.{Packet, front, claimed}
 use Rattle.paging.specs.Schemes.{Scheme}
-use Rattle.paging.specs.Joining.{Held}
+use Rattle.joining.specs.Joining.{Held}
 use Rattle.protocol.specs.Links.{Answer, Link, idle, signal, refused, Reading, Fixing, Entering}
 use Rattle.fixes.specs.declared.fix.Fix.{Fix}
 use Rattle.protocol.specs.Pulls.{Event, Found, Pull, Outcome, empty, partial, sign, broken, packet, is-signal, found, at-start, left, holding, routed, done, outcome-of, put, pull, pulled}
-use Rattle.link.specs.Streams.{headOf, passed, foundHeld, foundWaiting, route, opened}
-use Rattle.link.proofs.Finds.{head-some, head-none, step-rest}
+use Rattle.held.specs.Streams.{headOf, passed, foundHeld, foundWaiting}
+use Rattle.link.specs.Routes.{route, opened}
+use Rattle.held.proofs.Finds.{head-some, head-none, step-rest}
 use Rattle.link.proofs.Opens.{rest-waits, out, by-route, routed-is}
 
 -- the event is that of the stream behind the bytes passed over

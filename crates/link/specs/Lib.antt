@@ -1,4 +1,4 @@
 pub mod Fixing
 pub mod Faults
-pub mod Streams
+pub mod Routes
 pub mod Views

@@ -1,18 +1,12 @@
 -- What the structs and the answers of the code stand for.
-use Prim.Native.Nat.{ℕ}
-use mathlib.Core.List.{List}
-use lib.ListN.{take, drop}
 use Rattle.fixes.specs.Views.{boardOf}
-use Rattle.paging.specs.Views.{heldOf}
+use Rattle.joining.specs.Views.{heldOf}
+use Rattle.held.specs.Views.{heldIn}
 use Rattle.protocol.specs.Links as model
-use Rattle.link.specs.declared.held.HeldBytes.{HeldBytes}
 use Rattle.link.specs.declared.link.Link.{Link}
 use Rattle.link.specs.declared.answer.Answer.{Answer}
 use Rattle.link.specs.declared.answer.Answer.the-variants.{Idle, Signal, Page, Report, Other, Refused}
 use Rattle.link.specs.Faults.{linkRefusal, readingIn}
-
-abbrev pub heldIn : HeldBytes → List ℕ
-heldIn h = drop (h .start) (take (h .end) (h .bytes))
 
 abbrev pub answerOf : Answer → model.Answer
 answerOf (Idle n) = model.idle n

@@ -5,7 +5,6 @@
 // `LinkFault` what is refused. The rules of a pull are the definitions of the crate `protocol`.
 mod answer;
 mod fault;
-mod held;
 mod link;
 mod route;
 

@@ -2,7 +2,7 @@
 ghost use mathlib.Core.Path.{_≡_};
 ghost use Prim.Native.Nat.{ℕ, _≤_};
 ghost use lib.ListN.{length};
-ghost use Rattle.records.specs.Readings.{reading as readingBy};
+ghost use Rattle.reading.specs.Readings.{reading as readingBy};
 ghost use Rattle.fixes.specs.Views.{enter, boardOf};
 ghost use Rattle.fixes.specs.Ranking.{leads};
 ghost use Rattle.protocol.specs.Promises.{Report-survives-zeros, Pages-stand-whole, Board-holds-the-best, Room-never-refuses};
@@ -11,19 +11,19 @@ ghost use Rattle.protocol.specs.Pulls.{Outcome, pull, pulled};
 ghost use Rattle.protocol.specs.Runs.{EndsIdle};
 ghost use Rattle.link.specs.Faults.{lookOf};
 ghost use Rattle.link.specs.Fixing.{fixOf};
-ghost use Rattle.link.specs.Streams.{opened};
+ghost use Rattle.link.specs.Routes.{opened};
 ghost use Rattle.link.specs.Views.{stateOf, answerOf};
 use crate::answer::Answer;
 use crate::fault::LinkFault;
 use crate::fault::LinkFromPacket;
-use crate::held::HeldBytes;
 use crate::route::send;
 use fixes::Fix;
 use fixes::FixBoard;
+use held::HeldBytes;
+use joining::collector::Collector;
 use line::Line;
 use packet::read::Start;
 use packet::read::read;
-use paging::collector::Collector;
 use paging::scheme::Scheme;
 
 // The length of the longest report.

@@ -2,13 +2,13 @@
 ghost use mathlib.Core.Path.{_≡_};
 ghost use Prim.Native.Nat.{ℕ, _≤_};
 ghost use lib.ListN.{length};
-ghost use Rattle.records.specs.Readings.{reading as readingBy};
+ghost use Rattle.reading.specs.Readings.{reading as readingBy};
 ghost use Rattle.fixes.specs.Views.{boardOf, enter};
-ghost use Rattle.paging.specs.Views.{heldOf};
+ghost use Rattle.joining.specs.Views.{heldOf};
 ghost use Rattle.protocol.specs.Pulls.{put, board-with};
 ghost use Rattle.link.specs.Faults.{readingIn};
 ghost use Rattle.link.specs.Fixing.{fixOf};
-ghost use Rattle.link.specs.Streams.{Joint, joint, Route, route};
+ghost use Rattle.link.specs.Routes.{Joint, joint, Route, route};
 ghost use Rattle.link.specs.Views.{answerOf};
 use crate::answer::Answer;
 use crate::fault::LinkFault;
@@ -16,13 +16,13 @@ use crate::fault::LinkFromPage;
 use crate::fault::LinkFromRecord;
 use fixes::Fix;
 use fixes::FixBoard;
+use joining::collector::Collector;
+use joining::collector::Step;
 use packet::read::Packet;
-use paging::collector::Collector;
-use paging::collector::Step;
 use paging::scheme::Scheme;
+use reading::read_report;
 use records::kind::Kind;
 use records::position;
-use records::reading::read_report;
 
 fn copy(body: &[u8], buffer: &mut [u8])
     requires { ⌜ length (now body) ≤ length (now buffer) ⌝ }

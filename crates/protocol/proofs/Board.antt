@@ -12,7 +12,7 @@ use Rattle.records.specs.declared.kind.Kind.{Kind}
 use Rattle.records.specs.declared.kind.Kind.the-variants.{Position, Survey, Application, None}
 use Rattle.paging.specs.Schemes.{Scheme}
 use Rattle.fixes.specs.declared.fix.Fix.{Fix}
-use Rattle.paging.specs.Joining.{Joined, collected, more, whole, refuses}
+use Rattle.joining.specs.Joining.{Joined, collected, more, whole, refuses}
 use Rattle.protocol.specs.Links.{Link, Reading, Fixing, Entering}
 use Rattle.protocol.specs.Pulls.{Pull, Event, empty, partial, sign, broken, packet, found, pull, done, routed, answer-to, written-by, board-after, board-with}
 use Rattle.protocol.specs.Runs.{Given, given, Reached}

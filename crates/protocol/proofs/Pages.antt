@@ -11,7 +11,7 @@ use Rattle.std.proofs.shelf.Tests.{cond-both, eqb-true, and-parts}
 use Rattle.packet.specs.Bytes.{AreBytes, concat}
 use Rattle.packet.specs.Packets.{Packet, frame}
 use Rattle.paging.specs.Schemes.{Scheme, Header, Head, reads, tooShort, unfit}
-use Rattle.paging.specs.Joining.{Held, no-pages, Joined, more, whole, refuses, Collected, joined-to, kept, next-page, read-page, collected, out-of-turn}
+use Rattle.joining.specs.Joining.{Held, no-pages, Joined, more, whole, refuses, Collected, joined-to, kept, next-page, read-page, collected, out-of-turn}
 use Rattle.protocol.specs.Reports.{Pages}
 use Rattle.protocol.specs.Spans.{Span, Stand, Apart}
 use Rattle.protocol.proofs.Spans.{Ends, ends-none, ends-later, ends-push, apart-push, apart-none, stand-push}

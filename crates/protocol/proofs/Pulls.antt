@@ -9,7 +9,7 @@ use lib.ListN.{length, take, drop, length-append, length-drop}
 use lib.Seq.{drop-append-le, take-append-le}
 use Rattle.std.proofs.shelf.Tests.{cond-both, cond-false, le-ltb}
 use Rattle.paging.specs.Schemes.{Scheme}
-use Rattle.paging.specs.Joining.{Joined, collected, more, whole, refuses}
+use Rattle.joining.specs.Joining.{Joined, collected, more, whole, refuses}
 use Rattle.protocol.specs.Links.{Answer, Link, Reading, Fixing, Entering, idle, signal, page, report, other, refused}
 use Rattle.protocol.specs.Pulls.{Pull, Event, empty, partial, sign, broken, packet, Found, found, pull, pull-full, done, routed, answer-to, left, holding}
 use Rattle.protocol.proofs.Streams.{Settled, size-of, gone-of, gone-least, size-of-more, found-more}

@@ -12,7 +12,7 @@ use Rattle.std.proofs.shelf.Tests.{cond-true, eqb-true, le-leb, and-parts}
 use Rattle.packet.specs.Bytes.{AreBytes, concat}
 use Rattle.packet.specs.Packets.{Packet}
 use Rattle.paging.specs.Schemes.{Scheme, Header, Head, reads, tooShort, unfit, Laws}
-use Rattle.paging.specs.Joining.{Held, joined-to, kept, next-page, read-page, collected}
+use Rattle.joining.specs.Joining.{Held, joined-to, kept, next-page, read-page, collected}
 use Rattle.protocol.specs.Roomless.{read-roomless, collected-roomless}
 use Rattle.protocol.specs.Promises.{Room-never-refuses, For-lawful-schemes}
 use Rattle.protocol.proofs.Pages.{AllPages, bodies-of, Holds}

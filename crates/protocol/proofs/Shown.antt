@@ -7,7 +7,7 @@ use lib.ListN.{length, take, getD}
 use Rattle.std.proofs.shelf.Lists.{take-append-le, take-all}
 use Rattle.packet.specs.Packets.{Packet}
 use Rattle.paging.specs.Schemes.{Scheme}
-use Rattle.paging.specs.Joining.{Held, no-pages, Joined, more, whole, refuses, collected}
+use Rattle.joining.specs.Joining.{Held, no-pages, Joined, more, whole, refuses, collected}
 use Rattle.protocol.specs.Links.{Reading}
 use Rattle.protocol.specs.Pulls.{answer-to, written-by}
 use Rattle.protocol.specs.Reports.{Delivery, delivery}

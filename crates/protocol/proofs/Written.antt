@@ -11,9 +11,9 @@ use Rattle.std.proofs.shelf.Lists.{take-append-drop, take-take, drop-take, drop
 use Rattle.packet.specs.Bytes.{AreBytes, concat}
 use Rattle.packet.proofs.Bytes.{bytes-append, bytes-take, bytes-drop}
 use Rattle.paging.specs.Schemes.{Scheme, Header, Laws}
-use Rattle.paging.specs.Joining.{Held}
-use Rattle.paging.specs.Writes.{bodySize, partOf, pageOf, pagesFrom, pageCount}
-use Rattle.paging.proofs.Cutting.{end-last, within, small-content}
+use Rattle.joining.specs.Joining.{Held}
+use Rattle.writing.specs.Writes.{bodySize, partOf, pageOf, pagesFrom, pageCount}
+use Rattle.writing.proofs.Cutting.{end-last, within, small-content}
 use Rattle.protocol.specs.Links.{Reading, Fixing, Entering, Link, fresh}
 use Rattle.protocol.specs.Reports.{Pages}
 use Rattle.protocol.specs.Reports.Pages.{none, next}

@@ -12,7 +12,7 @@ use Rattle.std.proofs.shelf.Lists.{drop-at, drop-all, drop-append-le}
 use Rattle.packet.specs.Bytes.{AreBytes, concat}
 use Rattle.packet.specs.Packets.{Packet, frame, frames}
 use Rattle.paging.specs.Schemes.{Scheme, Laws}
-use Rattle.paging.specs.Joining.{Held, Collected, collected}
+use Rattle.joining.specs.Joining.{Held, Collected, collected}
 use Rattle.protocol.specs.Links.{Reading, Fixing, Entering, Link, idle}
 use Rattle.protocol.specs.Pulls.{packet, Found, found, Pull, answer-to, written-by, routed, left, done, pull}
 use Rattle.protocol.specs.Runs.{Given, given, Full, ToIdle}

@@ -13,7 +13,7 @@ use Rattle.std.proofs.shelf.Tests.{eq-eqb, ne-eqb, cases-eq}
 use Rattle.packet.specs.Bytes.{AreBytes}
 use Rattle.packet.specs.Packets.{Packet}
 use Rattle.paging.specs.Schemes.{Scheme, Header, reads, Laws}
-use Rattle.paging.specs.Joining.{Held, no-pages, Collected, collected, joined-to, kept, placed, more, whole}
+use Rattle.joining.specs.Joining.{Held, no-pages, Collected, collected, joined-to, kept, placed, more, whole}
 use Rattle.protocol.specs.Links.{Reading, Fixing, Entering, Link}
 use Rattle.protocol.specs.Pulls.{Pull, answer-to, written-by, routed}
 use Rattle.protocol.specs.Promises.{OneClaims}

@@ -10,7 +10,7 @@ use Rattle.refusal.specs.declared.Refusal.{Refusal}
 use Rattle.records.specs.declared.kind.Kind.{Kind}
 use Rattle.fixes.specs.declared.fix.Fix.{Fix}
 use Rattle.fixes.specs.Views.{no-fix}
-use Rattle.paging.specs.Joining.{Held, no-pages}
+use Rattle.joining.specs.Joining.{Held, no-pages}
 
 -- what a pull answers
 pub data Answer : Type 0 where

@@ -9,7 +9,7 @@ use Rattle.packet.specs.Bytes.{AreBytes, concat}
 use Rattle.packet.specs.Packets.{Packet, frames}
 use Rattle.paging.specs.Schemes.{Scheme, Laws}
 use Rattle.fixes.specs.declared.fix.Fix.{Fix}
-use Rattle.paging.specs.Joining.{collected}
+use Rattle.joining.specs.Joining.{collected}
 use Rattle.protocol.specs.Links.{Link, Reading, Fixing, Entering}
 use Rattle.protocol.specs.Roomless.{collected-roomless}
 use Rattle.protocol.specs.Pulls.{pull}

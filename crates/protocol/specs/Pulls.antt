@@ -12,7 +12,7 @@ use Rattle.records.specs.declared.kind.Kind.the-variants.{Position, Survey, App
 use Rattle.paging.specs.Schemes.{Scheme}
 use Rattle.refusal.specs.declared.Refusal.{Refusal}
 use Rattle.fixes.specs.declared.fix.Fix.{Fix}
-use Rattle.paging.specs.Joining.{Joined, Collected, collected, more, whole, refuses}
+use Rattle.joining.specs.Joining.{Joined, Collected, collected, more, whole, refuses}
 use Rattle.protocol.specs.Links.{Answer, Reading, Fixing, Entering, Link, idle, signal, page, report, other, refused, short-buffer}
 
 -- what stands in a stream behind the bytes passed over

@@ -5,7 +5,7 @@ use Prim.Native.Nat.{ℕ}
 use lib.Dec.{eqb}
 use lib.ListN.{drop}
 use Rattle.paging.specs.Schemes.{Scheme, Header, Head, reads, tooShort, unfit}
-use Rattle.paging.specs.Joining.{Held, Collected, out-of-turn, joined-to, next-page, read-page}
+use Rattle.joining.specs.Joining.{Held, Collected, out-of-turn, joined-to, next-page, read-page}
 
 -- page 1 begins a report, and the next page goes on with it, whatever room there is
 abbrev pub placed-roomless : Header → List ℕ → Held → Collected

@@ -4,7 +4,7 @@ use mathlib.Core.List.{List, [], _∷_, _++_}
 use lib.ListN.{length}
 use Rattle.packet.specs.Bytes.{AreBytes}
 use Rattle.paging.specs.Schemes.{Scheme}
-use Rattle.paging.specs.Writes.{bodySize, pageCount, written}
+use Rattle.writing.specs.Writes.{bodySize, pageCount, written}
 use Rattle.protocol.specs.Links.{Reading, Fixing, Entering, fresh}
 use Rattle.protocol.specs.Reports.{page-answers, report-answer}
 use Rattle.protocol.specs.Spans.{GoesTo}

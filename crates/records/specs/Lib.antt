@@ -3,7 +3,3 @@ pub mod Numbers
 pub mod Positions
 pub mod Surveys
 pub mod SurveyCursors
-pub mod Signals
-pub mod Applications
-pub mod ApplicationCursors
-pub mod Readings

@@ -1,5 +1,5 @@
 use borrow.Author.Needs.{needs}
-use Rattle.records.specs.Readings.{reading}
+use Rattle.reading.specs.Readings.{reading}
 use Rattle.fixes.specs.Views.{enter}
 use Rattle.fixes.specs.Ranking.{leads}
 use Rattle.fixes.proofs.Orders.{fix-order}

@@ -5,14 +5,15 @@ use Prim.Native.Nat.{_+_}
 use lib.ListN.{length, getD}
 use Rattle.packet.specs.Packets.{Packet, front, lawful, claimed, parsed}
 use Rattle.packet.specs.Reads.{packetRefusal}
-use Rattle.paging.specs.Views.{heldOf}
+use Rattle.joining.specs.Views.{heldOf}
 use Rattle.link.specs.Faults.{linkRefusal}
 use Rattle.protocol.specs.Links.{refused}
-use Rattle.records.specs.Readings.{reading}
+use Rattle.reading.specs.Readings.{reading}
 use Rattle.link.specs.Fixing.{fixOf}
 use Rattle.fixes.specs.Views.{enter, boardOf}
-use Rattle.link.specs.Views.{heldIn, stateOf, answerOf}
-use Rattle.link.proofs.Fills.{Filled}
+use Rattle.held.specs.Views.{heldIn}
+use Rattle.link.specs.Views.{stateOf, answerOf}
+use Rattle.held.proofs.Fills.{Filled}
 use Rattle.link.proofs.Opens.{out, opened-short, opened-broken, opened-lawful, same-front, same-size, broken-by, same-packet}
 use Rattle.link.proofs.link.Link.open.Needs as need
 

@@ -3,10 +3,11 @@ use Prim.Native.Nat.{_≤_}
 use native.Mathlib.Omega.{arith}
 use lib.ListN.{length}
 use Rattle.std.specs.declared.option.Option.the-variants.{Some}
-use Rattle.records.specs.Readings.{reading}
+use Rattle.reading.specs.Readings.{reading}
 use Rattle.link.specs.Fixing.{fixOf}
 use Rattle.fixes.specs.Views.{enter, boardOf}
-use Rattle.link.specs.Views.{heldIn, stateOf, answerOf}
+use Rattle.held.specs.Views.{heldIn}
+use Rattle.link.specs.Views.{stateOf, answerOf}
 use Rattle.link.proofs.Shifts.{pulled-none, pulled-start, pulled-sign}
 use Rattle.link.proofs.link.Link.pull.Needs as need
 

@@ -2,7 +2,7 @@ use mathlib.Core.Path.{_≡_, refl, ap}
 use Prim.Native.Nat.{_≤_}
 use native.Mathlib.Omega.{arith}
 use lib.ListN.{length}
-use Rattle.records.specs.Readings.{reading}
+use Rattle.reading.specs.Readings.{reading}
 use Rattle.fixes.specs.Views.{enter}
 use Rattle.link.specs.Fixing.{fixOf}
 use Rattle.link.specs.Views.{stateOf, answerOf}

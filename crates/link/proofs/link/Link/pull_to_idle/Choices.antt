@@ -1,7 +1,7 @@
 use mathlib.Core.Path.{_≡_}
 use Prim.Native.Nat.{ℕ, _+_}
 use lib.ListN.{length}
-use Rattle.records.specs.Readings.{reading}
+use Rattle.reading.specs.Readings.{reading}
 use Rattle.fixes.specs.Views.{enter}
 use Rattle.protocol.specs.Links.{Link}
 use Rattle.protocol.specs.Pulls.{pull}
