@@ -6,3 +6,4 @@ pub mod Compared
 pub mod Exact
 pub mod Thousandths
 pub mod Orders
+pub mod Lost

@@ -6,9 +6,7 @@ use native.Mathlib.Omega.{arith}
 use lib.ListN.{length, take, drop, getD, length-append, length-take}
 use Rattle.std.proofs.shelf.Lists.{take-at, drop-at, take-all, drop-all, append-nil, take-append-drop, getD-past, getD-take}
 use Rattle.packet.specs.Packets.{claimed}
-use Rattle.std.specs.declared.option.Option.{Option}
-use Rattle.std.specs.declared.option.Option.the-variants.{Some, None}
-use Rattle.held.specs.Streams.{seen, unseen, headOf}
+use Rattle.held.specs.Streams.{seen, unseen}
 
 pub record Filled (n : ℕ) (h v h0 v0 : List ℕ) : Type 0 where
   pub held : h ≡ seen n (h0 ++ v0) (length h0)
@@ -42,31 +40,6 @@ module _ (n : ℕ) (h v h0 v0 : List ℕ) (e : h ++ v ≡ h0 ++ v0) (l : length 
 
 pub moved-up : (h v h0 : List ℕ) (b : ℕ) → h0 ≡ h ++ (b ∷ []) → h0 ++ v ≡ h ++ (b ∷ v)
 moved-up h v h0 b e = ap (λ x. x ++ v) e ∙ append-assoc h (b ∷ []) v
-
-pub record First (h v h0 v0 : List ℕ) (r : Option ℕ) : Type 0 where
-  pub held : h ≡ seen 1 (h0 ++ v0) (length h0)
-  pub waiting : v ≡ unseen 1 (h0 ++ v0) (length h0)
-  pub answer : r ≡ headOf (h0 ++ v0)
-
--- a first byte is held
-pub first-already : (h v t : List ℕ) (b : ℕ) → h ≡ b ∷ t → First h v h v (Some b)
-first-already h v t b e =
-    let f = already 1 h v (omega (arith, ap length e)) in
-    record { held = f .held; waiting = f .waiting; answer = ap (λ x. headOf (x ++ v)) (sym e) }
-
--- none is held, and one waits
-pub first-waits : (h v h0 v0 : List ℕ) (b : ℕ) → h ≡ b ∷ [] → h0 ≡ [] → v0 ≡ b ∷ v → First h v h0 v0 (Some b)
-first-waits h v h0 v0 b e z t =
-    let same : h ++ v ≡ h0 ++ v0 = ap (λ x. x ++ v) e ∙ sym t ∙ ap (λ x. x ++ v0) (sym z) in
-    let f = enough 1 h v h0 v0 same (omega (arith, ap length z)) (omega (arith, ap length e)) in
-    record { held = f .held; waiting = f .waiting; answer = ap (headOf) (sym t ∙ ap (λ x. x ++ v0) (sym z)) }
-
--- nothing is held and nothing waits
-pub first-none : (h v h0 v0 : List ℕ) → h ≡ [] → h0 ≡ [] → v0 ≡ [] → v ≡ [] → First h v h0 v0 None
-first-none h v h0 v0 e z t u =
-    let same : h ++ v ≡ h0 ++ v0 = ap (λ x. x ++ v) e ∙ u ∙ sym t ∙ ap (λ x. x ++ v0) (sym z) in
-    let f = at-end 1 h v h0 v0 same (omega (arith, ap length z)) u (omega (arith, ap length e)) in
-    record { held = f .held; waiting = f .waiting; answer = ap (headOf) (sym t ∙ ap (λ x. x ++ v0) (sym z)) }
 
 -- four bytes are seen, and then the packet that they announce
 module _ (h v h1 v1 : List ℕ) (f : Filled 4 h1 v1 h v) where

@@ -6,8 +6,8 @@ use Prim.Native.Nat.{ℕ, _+_, _-_, _<_, _≤_, min, max, suc}
 use native.Mathlib.Numerals.{add-one}
 use native.Mathlib.Omega.{arith}
 use lib.Dec.{eqb}
-use lib.ListN.{length, take, drop, length-append, length-take}
-use Rattle.std.proofs.shelf.Lists.{take-append-drop}
+use lib.ListN.{length, take, drop, length-drop}
+use Rattle.std.proofs.shelf.Lists.{take-at, drop-at, drop-take, drop-drop, drop-append-le}
 use Rattle.std.proofs.shelf.Tests.{or-parts, false≢true}
 use Rattle.std.specs.declared.option.Option.{Option}
 use Rattle.std.specs.declared.option.Option.the-variants.{Some, None}
@@ -39,85 +39,68 @@ module _ (s : Bool) where
   went-on : (b : ℕ) (w : List ℕ) → stops s b ≡ false → passed s (b ∷ w) ≡ passed s w + 1
   went-on b w e = miss (eqb b 2) (s && is-signal b) _ _ _ e
 
-  -- one byte less of the stream, and one less held
-  module _ (b : ℕ) (w : List ℕ) (k : ℕ) (e : stops s b ≡ false) where
-    more : max (passed s w + 1 + 1) k ≡ suc (max (passed s w + 1) (k - 1))
-    more = omega arith
+  -- one byte less of the stream
+  pub step-rest : (b : ℕ) (w : List ℕ) → stops s b ≡ false → drop (passed s (b ∷ w)) (b ∷ w) ≡ drop (passed s w) w
+  step-rest b w e = ap (λ n. drop n (b ∷ w)) (went-on b w e) ∙ ap (λ n. drop n (b ∷ w)) (add-one (passed s w))
 
-    pub step-held : foundHeld s (b ∷ w) k ≡ foundHeld s w (k - 1)
-    step-held =
-        ap (λ n. drop n (take (max (n + 1) k) (b ∷ w))) (went-on b w e)
-        ∙ ap (λ m. drop (passed s w + 1) (take m (b ∷ w))) more
-        ∙ ap (λ n. drop n (b ∷ take (max (passed s w + 1) (k - 1)) w)) (add-one (passed s w))
+  -- the same where another name is known for the longer list
+  pub stepped : (w v : List ℕ) (b : ℕ) → w ≡ b ∷ v → stops s b ≡ false → drop (passed s v) v ≡ drop (passed s w) w
+  stepped w v b is e = sym (step-rest b v e) ∙ ap (λ x. drop (passed s x) x) (sym is)
 
-    pub step-waiting : foundWaiting s (b ∷ w) k ≡ foundWaiting s w (k - 1)
-    step-waiting = ap (λ n. drop (max (n + 1) k) (b ∷ w)) (went-on b w e) ∙ ap (λ m. drop m (b ∷ w)) more
+  -- a byte that stops is not passed over
+  pub stays : (w v : List ℕ) (b : ℕ) → w ≡ b ∷ v → stops s b ≡ true → w ≡ drop (passed s w) w
+  stays w v b is e = sym (ap (λ n. drop n w) (ap (passed s) is ∙ stopped b v e))
 
-    pub step-rest : drop (passed s (b ∷ w)) (b ∷ w) ≡ drop (passed s w) w
-    step-rest = ap (λ n. drop n (b ∷ w)) (went-on b w e) ∙ ap (λ n. drop n (b ∷ w)) (add-one (passed s w))
+  pub none-passed : (w : List ℕ) → w ≡ [] → w ≡ drop (passed s w) w
+  none-passed w is = is ∙ sym (ap (λ x. drop (passed s x) x) is)
 
-  -- what a search answers from a stream of which so many bytes are held
-  pub record Same (w : List ℕ) (k : ℕ) (w0 : List ℕ) (k0 : ℕ) : Type 0 where
-    pub held : foundHeld s w k ≡ foundHeld s w0 k0
-    pub waiting : foundWaiting s w k ≡ foundWaiting s w0 k0
-    pub rest : drop (passed s w) w ≡ drop (passed s w0) w0
+  -- a byte of the front stops
+  in-front : (h v t : List ℕ) (b : ℕ) → drop (passed s h) h ≡ b ∷ t → passed s (h ++ v) ≡ passed s h
+  in-front [] v t b is = let z : _≡_ {A = ℕ} 0 1 = cc in absurd (omega arith)
+  in-front (x ∷ h) v t b is = go (λ e. in-front h v t b (sym (step-rest x h e) ∙ is)) (stops s x) refl
+    where
+      go : (stops s x ≡ false → passed s (h ++ v) ≡ passed s h) → (c : Bool) → stops s x ≡ c → passed s (x ∷ (h ++ v)) ≡ passed s (x ∷ h)
+      go ih true e = stopped x (h ++ v) e ∙ sym (stopped x h e)
+      go ih false e = went-on x (h ++ v) e ∙ ap (λ n. n + 1) (ih e) ∙ sym (went-on x h e)
 
-  pub started : (w : List ℕ) (k : ℕ) → Same w k w k
-  started w k = record { held = refl; waiting = refl; rest = refl }
+  -- no byte of the front stops
+  past-front : (h v : List ℕ) → drop (passed s h) h ≡ [] → passed s (h ++ v) ≡ length h + passed s v
+  past-front [] v is = omega arith
+  past-front (x ∷ h) v is = go (λ e. past-front h v (sym (step-rest x h e) ∙ is)) (stops s x) refl
+    where
+      go : (stops s x ≡ false → passed s (h ++ v) ≡ length h + passed s v) → (c : Bool) → stops s x ≡ c → passed s (x ∷ (h ++ v)) ≡ length (x ∷ h) + passed s v
+      go ih true e = let none : x ∷ h ≡ [] = stays (x ∷ h) h x refl e ∙ is in absurd (omega (arith, ap length none))
+      go ih false e = omega (arith, went-on x (h ++ v) e, ih e)
 
-  module _ (h v h1 v1 h2 : List ℕ) (b : ℕ)
-      (held : h1 ≡ seen 1 (h ++ v) (length h)) (waiting : v1 ≡ unseen 1 (h ++ v) (length h)) (head : Some b ≡ headOf (h ++ v))
-      (gone : h2 ≡ drop 1 h1) where
-    tail : List ℕ
-    tail = drop 1 (h ++ v)
+  -- what a search leaves and answers, of a stream of which so many bytes are held
+  pub record Sought (h1 v1 : List ℕ) (r : Option ℕ) (w : List ℕ) (k : ℕ) : Type 0 where
+    pub held : h1 ≡ foundHeld s w k
+    pub waiting : v1 ≡ foundWaiting s w k
+    pub answer : r ≡ headOf (drop (passed s w) w)
 
-    is : h ++ v ≡ b ∷ drop 1 (h ++ v)
-    is = head-some (h ++ v) b head
-
-    one : max 1 (length h) ≡ suc (length h - 1)
-    one = omega arith
-
-    kept : h2 ≡ take (length h - 1) (drop 1 (h ++ v))
-    kept = gone ∙ ap (drop 1) (held ∙ ap (λ n. take n (h ++ v)) one ∙ ap (take (suc (length h - 1))) is)
-
-    left : v1 ≡ drop (length h - 1) (drop 1 (h ++ v))
-    left = waiting ∙ ap (λ n. drop n (h ++ v)) one ∙ ap (drop (suc (length h - 1))) is
-
-    pub stream : h2 ++ v1 ≡ drop 1 (h ++ v)
-    stream = ap (λ x. x ++ v1) kept ∙ ap (λ x. take (length h - 1) (drop 1 (h ++ v)) ++ x) left ∙ take-append-drop (length h - 1) (drop 1 (h ++ v))
-
-    count : length h2 ≡ length h - 1
-    count = omega (arith, ap length kept ∙ length-take (length h - 1) (drop 1 (h ++ v)), length-append h v, ap length is)
-
-    pub shorter : length (h2 ++ v1) < length (h ++ v)
-    shorter = omega (arith, ap length stream, ap length is)
-
-    pub passing : stops s b ≡ false → (w0 : List ℕ) (k0 : ℕ) → Same (h ++ v) (length h) w0 k0 → Same (h2 ++ v1) (length h2) w0 k0
-    passing e w0 k0 same =
-        let t : List ℕ = drop 1 (h ++ v) in
-        let k : ℕ = length h in
-        record {
-          held = ap (λ x. foundHeld s x (length h2)) stream ∙ ap (foundHeld s t) count ∙ sym (step-held b t k e) ∙ ap (λ x. foundHeld s x k) (sym is) ∙ same .held;
-          waiting = ap (λ x. foundWaiting s x (length h2)) stream ∙ ap (foundWaiting s t) count ∙ sym (step-waiting b t k e) ∙ ap (λ x. foundWaiting s x k) (sym is) ∙ same .waiting;
-          rest = ap (λ x. drop (passed s x) x) stream ∙ sym (step-rest b t k e) ∙ ap (λ x. drop (passed s x) x) (sym is) ∙ same .rest;
-        }
-
-  pub record Sought (h1 v1 : List ℕ) (r : Option ℕ) (w0 : List ℕ) (k0 : ℕ) : Type 0 where
-    pub held : h1 ≡ foundHeld s w0 k0
-    pub waiting : v1 ≡ foundWaiting s w0 k0
-    pub answer : r ≡ headOf (drop (passed s w0) w0)
-
-  -- no byte is passed over
-  pub ends : (h1 v1 w w0 : List ℕ) (k k0 : ℕ) (r : Option ℕ) → passed s w ≡ 0 → h1 ≡ seen 1 w k → v1 ≡ unseen 1 w k → r ≡ headOf w → Same w k w0 k0 → Sought h1 v1 r w0 k0
-  ends h1 v1 w w0 k k0 r z held waiting head same =
+  -- a held byte stops
+  pub in-held : (h h1 v : List ℕ) (b : ℕ) → h1 ≡ drop (passed s h) h → Some b ≡ headOf (drop (passed s h) h) → Sought h1 v (Some b) (h ++ v) (length h)
+  in-held h h1 v b left head =
+      let is : drop (passed s h) h ≡ b ∷ drop 1 (drop (passed s h) h) = head-some _ b head in
+      let same : passed s h ≡ passed s (h ++ v) = sym (in-front h v _ b is) in
+      let low : passed s h + 1 ≤ length h = omega (arith, length-drop (passed s h) h, ap length is) in
+      let m : length h ≡ max (passed s h + 1) (length h) = omega arith in
       record {
-        held = held ∙ sym (ap (λ p. drop p (take (max (p + 1) k) w)) z) ∙ same .held;
-        waiting = waiting ∙ sym (ap (λ p. drop (max (p + 1) k) w) z) ∙ same .waiting;
-        answer = head ∙ ap headOf (sym (ap (λ p. drop p w) z) ∙ same .rest);
+        held = left ∙ ap (drop (passed s h)) (sym (take-at h v _ m)) ∙ ap (λ n. drop n (take (max (n + 1) (length h)) (h ++ v))) same;
+        waiting = sym (drop-at h v _ m) ∙ ap (λ n. drop (max (n + 1) (length h)) (h ++ v)) same;
+        answer = ap (λ x. headOf (x ++ v)) (sym is) ∙ ap headOf (sym (drop-append-le (passed s h) h v (omega arith))) ∙ ap (λ n. headOf (drop n (h ++ v))) same;
       }
 
-  pub stop-here : (w : List ℕ) (b : ℕ) → Some b ≡ headOf w → stops s b ≡ true → passed s w ≡ 0
-  stop-here w b head e = ap (passed s) (head-some w b head) ∙ stopped b (drop 1 w) e
-
-  pub nothing-here : (w : List ℕ) → None ≡ headOf w → passed s w ≡ 0
-  nothing-here w head = ap (passed s) (head-none w head)
+  -- no held byte stops
+  pub in-line : (h h1 v v1 : List ℕ) (r : Option ℕ) → None ≡ headOf (drop (passed s h) h)
+      → h1 ≡ take 1 (drop (passed s v) v) → v1 ≡ drop 1 (drop (passed s v) v) → r ≡ headOf (drop (passed s v) v) → Sought h1 v1 r (h ++ v) (length h)
+  in-line h h1 v v1 r none held waiting answer =
+      let is : passed s (h ++ v) ≡ length h + passed s v = past-front h v (head-none _ none) in
+      let rest : drop (passed s (h ++ v)) (h ++ v) ≡ drop (passed s v) v =
+      ap (λ n. drop n (h ++ v)) is ∙ sym (drop-drop (passed s v) (length h) (h ++ v)) ∙ ap (drop (passed s v)) (drop-at h v (length h) refl) in
+      let m : passed s (h ++ v) + 1 ≡ max (passed s (h ++ v) + 1) (length h) = omega arith in
+      record {
+        held = held ∙ ap (take 1) (sym rest) ∙ sym (drop-take (passed s (h ++ v)) 1 (h ++ v)) ∙ ap (λ n. drop (passed s (h ++ v)) (take n (h ++ v))) m;
+        waiting = waiting ∙ ap (drop 1) (sym rest) ∙ drop-drop 1 (passed s (h ++ v)) (h ++ v) ∙ ap (λ n. drop n (h ++ v)) m;
+        answer = answer ∙ ap headOf (sym rest);
+      }

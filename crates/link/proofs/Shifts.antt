@@ -41,7 +41,7 @@ one-more s b w false true e f h =
     ap (λ (x : Found). x .event) is ∙ sym at ∙ sym (ap (λ (x : Found). event-of (drop (x .passed) (b ∷ w))) is)
 one-more s b w false false e f h =
     let on : found s (b ∷ w) .event ≡ found s w .event = rw (e, f) in
-    on ∙ h ∙ ap event-of (sym (step-rest s b w 0 (or-from _ _ e f)))
+    on ∙ h ∙ ap event-of (sym (step-rest s b w (or-from _ _ e f)))
 
 pub event-is : (s : Bool) (w : List ℕ) → found s w .event ≡ event-of (drop (passed s w) w)
 event-is s [] = refl

@@ -9,11 +9,26 @@ ghost use Rattle.held.specs.Streams.{headOf, stops, passed, seen, unseen, foun
 ghost use Rattle.held.specs.Views.{heldIn};
 use super::HeldBytes;
 use line::Line;
+use line::chunk::take_chunk;
 
 fn is_stop(b: u8, in_step: bool) -> bool
     ensures { λ r. ⌜ r ≡ stops «in_step» b ⌝ }
 {
     b == 2 || (in_step && (b == 5 || b == 6 || b == 21))
+}
+
+// Passes over waiting bytes up to the first that stops, which is taken too, and answers it. Nothing is
+// written here but the line's own place.
+fn pass_waiting<L: Line>(line: &mut L, in_step: bool) -> Option<u8>
+    ensures waiting { λ _. ⌜ L·Line .waiting (now (line .exit)) ≡ drop 1 (drop (passed «in_step» (L·Line .waiting (now (line .entry)))) (L·Line .waiting (now (line .entry)))) ⌝ }
+    ensures answer { λ r. ⌜ r ≡ headOf (drop (passed «in_step» (L·Line .waiting (now (line .entry)))) (L·Line .waiting (now (line .entry)))) ⌝ }
+{
+    while let Some(b) = line.take() {
+        if is_stop(b, in_step) {
+            return Some(b);
+        }
+    }
+    None
 }
 
 impl HeldBytes {
@@ -74,6 +89,36 @@ impl HeldBytes {
         self.end = len;
     }
 
+    // Puts bytes behind those held.
+    fn append(&mut self, part: &[u8])
+        requires { ⌜ now self .end + length (now part) ≤ 522 ⌝ }
+        ensures held { λ _. ⌜ heldIn (now (self .exit)) ≡ heldIn (now (self .entry)) ++ now (part .entry) ⌝ }
+        ensures start { λ _. ⌜ now (self .exit) .start ≡ now (self .entry) .start ⌝ }
+        ensures end { λ _. ⌜ now (self .exit) .end ≡ now (self .entry) .end + length (now (part .entry)) ⌝ }
+    {
+        let end = self.end + part.len();
+        self.bytes[self.end..end].copy_from_slice(part);
+        self.end = end;
+    }
+
+    // Takes bytes from the line until fewer than 8 are missing up to a place of the array, or nothing
+    // waits. For a few bytes a chunk costs more than it saves.
+    fn fill_by_chunks<L: Line>(&mut self, line: &mut L, to: usize)
+        requires fits { ⌜ to ≤ 522 ⌝ }
+        requires below { ⌜ now self .end ≤ to ⌝ }
+        ensures stream { λ _. ⌜ heldIn (now (self .exit)) ++ L·Line .waiting (now (line .exit)) ≡ heldIn (now (self .entry)) ++ L·Line .waiting (now (line .entry)) ⌝ }
+        ensures start { λ _. ⌜ now (self .exit) .start ≡ now (self .entry) .start ⌝ }
+        ensures end { λ _. ⌜ now (self .exit) .end ≤ to ⌝ }
+    {
+        while to - self.end >= 8 {
+            let chunk = take_chunk(line, to - self.end);
+            if chunk.len == 0 {
+                return;
+            }
+            self.append(&chunk.bytes[0..chunk.len]);
+        }
+    }
+
     // Takes bytes from the line until so many are held or nothing waits.
     fn fill<L: Line>(&mut self, line: &mut L, n: usize)
         requires { ⌜ n ≤ 522 ⌝ }
@@ -84,6 +129,7 @@ impl HeldBytes {
             return;
         }
         self.make_room(n);
+        self.fill_by_chunks(line, self.start + n);
         while self.end - self.start < n {
             let Some(b) = line.take() else {
                 return;
@@ -93,22 +139,19 @@ impl HeldBytes {
         }
     }
 
-    // The first byte of the stream, which is then held.
-    fn first<L: Line>(&mut self, line: &mut L) -> Option<u8>
-        ensures held { λ _. ⌜ heldIn (now (self .exit)) ≡ seen 1 (heldIn (now (self .entry)) ++ L·Line .waiting (now (line .entry))) (length (heldIn (now (self .entry)))) ⌝ }
-        ensures waiting { λ _. ⌜ L·Line .waiting (now (line .exit)) ≡ unseen 1 (heldIn (now (self .entry)) ++ L·Line .waiting (now (line .entry))) (length (heldIn (now (self .entry)))) ⌝ }
-        ensures answer { λ r. ⌜ r ≡ headOf (heldIn (now (self .entry)) ++ L·Line .waiting (now (line .entry))) ⌝ }
+    // Passes over held bytes up to the first that stops, and answers it.
+    fn pass_held(&mut self, in_step: bool) -> Option<u8>
+        ensures held { λ _. ⌜ heldIn (now (self .exit)) ≡ drop (passed «in_step» (heldIn (now (self .entry)))) (heldIn (now (self .entry))) ⌝ }
+        ensures answer { λ r. ⌜ r ≡ headOf (drop (passed «in_step» (heldIn (now (self .entry)))) (heldIn (now (self .entry)))) ⌝ }
     {
-        if self.start < self.end {
-            return Some(self.bytes[self.start]);
+        while self.start < self.end {
+            let b = self.bytes[self.start];
+            if is_stop(b, in_step) {
+                return Some(b);
+            }
+            self.start += 1;
         }
-        let Some(b) = line.take() else {
-            return None;
-        };
-        self.bytes[0] = b;
-        self.start = 0;
-        self.end = 1;
-        Some(b)
+        None
     }
 
     // Passes over bytes up to the first that is a start byte or, in step, a signal.
@@ -117,13 +160,16 @@ impl HeldBytes {
         ensures waiting { λ _. ⌜ L·Line .waiting (now (line .exit)) ≡ foundWaiting «in_step» (heldIn (now (self .entry)) ++ L·Line .waiting (now (line .entry))) (length (heldIn (now (self .entry)))) ⌝ }
         ensures answer { λ r. ⌜ r ≡ headOf (drop (passed «in_step» (heldIn (now (self .entry)) ++ L·Line .waiting (now (line .entry)))) (heldIn (now (self .entry)) ++ L·Line .waiting (now (line .entry)))) ⌝ }
     {
-        while let Some(b) = self.first(line) {
-            if is_stop(b, in_step) {
-                return Some(b);
-            }
-            self.pass(1);
+        if let Some(b) = self.pass_held(in_step) {
+            return Some(b);
         }
-        None
+        let Some(b) = pass_waiting(line, in_step) else {
+            return None;
+        };
+        self.bytes[0] = b;
+        self.start = 0;
+        self.end = 1;
+        Some(b)
     }
 
     // Takes bytes from the line until the packet at the start is held or nothing waits.

@@ -25,15 +25,20 @@ loop-self-again g c =
       length-set (l .bytes) (l .end) (c .in-Some .b) ∙ c .loop-self .inv .3,
     )
 
-pub loop-self-holds : need.loop-self-holds
-loop-self-holds g c =
+pub fill-by-chunks-requires : need.fill-by-chunks-requires
+fill-by-chunks-requires g c _ =
     let s = c .args .self .now in
     let m = c .make-room .last .self in
     let was = length-held (s .bytes) (s .start) (s .end) (omega arith) in
-    let is = length-held (m .bytes) (m .start) (m .end) (omega arith) in (
+    let is = length-held (m .bytes) (m .start) (m .end) (omega arith) in
+    record { fits = c .make-room .ensures .room; below = omega (arith, was, is, ap length (c .make-room .ensures .held)) }
+
+pub loop-self-holds : need.loop-self-holds
+loop-self-holds g c =
+    let by = c .fill-by-chunks .ensures in (
       refl,
-      c .make-room .ensures .room,
-      omega (arith, was, is, ap length (c .make-room .ensures .held)),
+      omega (arith, by .start, c .make-room .ensures .room),
+      omega (arith, by .start, by .end),
       omega arith,
     )
 
@@ -42,7 +47,7 @@ returns-in-rest g c =
     let s = c .args .self .now in
     let l = c .loop-self .self in
     let none = c .in-rest .ensures tt in
-    let same = ap (λ w. heldIn l ++ w) (none .1 ∙ sym (none .0)) ∙ c .loop-self .inv .0 ∙ ap (λ h. h ++ g .L·Line .waiting (c .args .line .now)) (c .make-room .ensures .held) in
+    let same = ap (λ w. heldIn l ++ w) (none .1 ∙ sym (none .0)) ∙ c .loop-self .inv .0 ∙ c .fill-by-chunks .ensures .stream ∙ ap (λ h. h ++ g .L·Line .waiting (c .args .line .now)) (c .make-room .ensures .held) in
     let f = at-end (c .args .n) (heldIn l) _ (heldIn s) (g .L·Line .waiting (c .args .line .now)) same
     (omega (arith, length-held (s .bytes) (s .start) (s .end) (omega arith))) (none .1) (omega (arith, length-held (l .bytes) (l .start) (l .end) (omega arith))) in
     record { held = f .held; waiting = f .waiting }
@@ -51,7 +56,7 @@ pub returns : need.returns
 returns g c =
     let s = c .args .self .now in
     let l = c .loop-self .self in
-    let same = c .loop-self .inv .0 ∙ ap (λ h. h ++ g .L·Line .waiting (c .args .line .now)) (c .make-room .ensures .held) in
+    let same = c .loop-self .inv .0 ∙ c .fill-by-chunks .ensures .stream ∙ ap (λ h. h ++ g .L·Line .waiting (c .args .line .now)) (c .make-room .ensures .held) in
     let f = enough (c .args .n) (heldIn l) _ (heldIn s) (g .L·Line .waiting (c .args .line .now)) same
     (omega (arith, length-held (s .bytes) (s .start) (s .end) (omega arith))) (omega (arith, length-held (l .bytes) (l .start) (l .end) (omega arith))) in
     record { held = f .held; waiting = f .waiting }
