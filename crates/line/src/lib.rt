@@ -36,6 +36,14 @@ impl<'a> Capture<'a> {
     {
         Capture { bytes, at: 0 }
     }
+
+    // How many of the bytes are taken.
+    pub fn taken(&self) -> usize
+        ensures { λ r. ⌜ r ≡ now (self .entry) .at ⌝ }
+    {
+        let Capture { bytes: _, at } = self;
+        *at
+    }
 }
 
 pub impl<'a> Line for Capture<'a> as CaptureLine {
