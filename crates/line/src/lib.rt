@@ -1,8 +1,7 @@
 // A line: bytes that wait, taken one by one.
 //
 // `Line` is its one operation; a `Capture` is raw bytes in the caller's memory; a `ReadAhead` stands
-// over any other line and takes up to 64 bytes from it at a time; `take_chunk` takes that many of any
-// line in one go.
+// over any other line and takes up to 64 bytes from it at a time.
 ghost use mathlib.Core.Path.{_≡_};
 ghost use mathlib.Core.List.{List};
 ghost use Prim.Native.Nat.{ℕ, _+_};
@@ -10,7 +9,6 @@ ghost use lib.ListN.{drop};
 ghost use denote.Ref.{now};
 ghost use Rattle.line.specs.Takes.{Taken};
 
-pub mod chunk;
 pub mod read_ahead;
 
 pub trait Line {

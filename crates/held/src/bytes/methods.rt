@@ -9,7 +9,6 @@ ghost use Rattle.held.specs.Streams.{headOf, stops, passed, seen, unseen, foun
 ghost use Rattle.held.specs.Views.{heldIn};
 use super::HeldBytes;
 use line::Line;
-use line::chunk::take_chunk;
 
 fn is_stop(b: u8, in_step: bool) -> bool
     ensures { λ r. ⌜ r ≡ stops «in_step» b ⌝ }
@@ -89,36 +88,6 @@ impl HeldBytes {
         self.end = len;
     }
 
-    // Puts bytes behind those held.
-    fn append(&mut self, part: &[u8])
-        requires { ⌜ now self .end + length (now part) ≤ 522 ⌝ }
-        ensures held { λ _. ⌜ heldIn (now (self .exit)) ≡ heldIn (now (self .entry)) ++ now (part .entry) ⌝ }
-        ensures start { λ _. ⌜ now (self .exit) .start ≡ now (self .entry) .start ⌝ }
-        ensures end { λ _. ⌜ now (self .exit) .end ≡ now (self .entry) .end + length (now (part .entry)) ⌝ }
-    {
-        let end = self.end + part.len();
-        self.bytes[self.end..end].copy_from_slice(part);
-        self.end = end;
-    }
-
-    // Takes bytes from the line until fewer than 8 are missing up to a place of the array, or nothing
-    // waits. For a few bytes a chunk costs more than it saves.
-    fn fill_by_chunks<L: Line>(&mut self, line: &mut L, to: usize)
-        requires fits { ⌜ to ≤ 522 ⌝ }
-        requires below { ⌜ now self .end ≤ to ⌝ }
-        ensures stream { λ _. ⌜ heldIn (now (self .exit)) ++ L·Line .waiting (now (line .exit)) ≡ heldIn (now (self .entry)) ++ L·Line .waiting (now (line .entry)) ⌝ }
-        ensures start { λ _. ⌜ now (self .exit) .start ≡ now (self .entry) .start ⌝ }
-        ensures end { λ _. ⌜ now (self .exit) .end ≤ to ⌝ }
-    {
-        while to - self.end >= 8 {
-            let chunk = take_chunk(line, to - self.end);
-            if chunk.len == 0 {
-                return;
-            }
-            self.append(&chunk.bytes[0..chunk.len]);
-        }
-    }
-
     // Takes bytes from the line until so many are held or nothing waits.
     fn fill<L: Line>(&mut self, line: &mut L, n: usize)
         requires { ⌜ n ≤ 522 ⌝ }
@@ -129,14 +98,19 @@ impl HeldBytes {
             return;
         }
         self.make_room(n);
-        self.fill_by_chunks(line, self.start + n);
-        while self.end - self.start < n {
+        // The end is kept in a variable meanwhile: written byte by byte behind a reference, it would be
+        // read back for each byte.
+        let to = self.start + n;
+        let mut end = self.end;
+        while end < to {
             let Some(b) = line.take() else {
+                self.end = end;
                 return;
             };
-            self.bytes[self.end] = b;
-            self.end += 1;
+            self.bytes[end] = b;
+            end += 1;
         }
+        self.end = end;
     }
 
     // Passes over held bytes up to the first that stops, and answers it.
