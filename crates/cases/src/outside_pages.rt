@@ -5,8 +5,7 @@
 // that the decoder joined: BITS are bytes 0 to 7, COUNT is byte 16, and the PRNs are those of its satellites.
 use crate::hex_text::part;
 use crate::tally::Tally;
-use crate::words::bytes;
-use crate::words::word;
+use crate::words::bytes_of;
 use answers::log;
 use records::survey::head;
 use std::alloc::Global;
@@ -19,10 +18,8 @@ pub fn run(rt: &LibcRuntime) -> Result<(), AnyError> {
     let mut tally = Tally::new("outside, joined streams");
     for line in epochs.as_str().lines() {
         if let Some(name) = line.strip_prefix("stream ") {
-            let stream = part(rt.alloc(), streams.as_str(), "stream", name)?;
-            let pulls = log(rt.alloc(), stream.as_slice())?;
             let want = epochs_of(rt.alloc(), epochs.as_str(), name)?;
-            let got = delivered(rt.alloc(), pulls.as_str())?;
+            let got = reports_of(rt.alloc(), streams.as_str(), name)?;
             tally.compare_lines(rt, name, want.as_str(), got.as_str())?;
         }
     }
@@ -46,32 +43,40 @@ fn epochs_of(heap: Global, epochs: &str, name: &str) -> Result<String, AnyError>
     Ok(text)
 }
 
-// The same for each report of type 57h among the answers.
+// The same for each report of type 57h that the link delivers from a stream.
+fn reports_of(heap: Global, streams: &str, name: &str) -> Result<String, AnyError> {
+    let stream = part(heap, streams, "stream", name)?;
+    let pulls = log(heap, stream.as_slice())?;
+    delivered(heap, pulls.as_str())
+}
+
 fn delivered(heap: Global, pulls: &str) -> Result<String, AnyError> {
     let mut text = String::new(heap);
     for line in pulls.lines() {
-        add_report(heap, &mut text, line)?;
+        if let Some((reading, body)) = report_parts(line) {
+            let body = bytes_of(heap, body)?;
+            add_report(&mut text, reading, body.as_slice())?;
+        }
     }
     Ok(text)
 }
 
-fn add_report(heap: Global, text: &mut String, line: &str) -> Result<(), AnyError> {
-    let mut words = line.split_whitespace();
-    let _taken = word(&mut words)?;
-    if word(&mut words)? != "report" || word(&mut words)? != "57" {
-        return Ok(());
-    }
-    let _key = word(&mut words)?;
-    let _length = word(&mut words)?;
-    let reading = word(&mut words)?;
-    let body = bytes(heap, &mut words)?;
-    let Ok(head) = head(body.as_slice()) else {
+// The reading and the body of a report of type 57h, from the line of its answer.
+fn report_parts(line: &str) -> Option<(&str, &str)> {
+    let (_taken, rest) = line.split_once(" report 57 ")?;
+    let (_key, rest) = rest.split_once(' ')?;
+    let (_length, rest) = rest.split_once(' ')?;
+    rest.split_once(' ')
+}
+
+fn add_report(text: &mut String, reading: &str, body: &[u8]) -> Result<(), AnyError> {
+    let Ok(head) = head(body) else {
         return Err("a report has no head".into());
     };
     let bits = head.receive_time;
     let count = head.count;
     write!(text, "{reading} {bits:016X} {count}")?;
-    add_satellites(text, body.as_slice(), count)
+    add_satellites(text, body, count)
 }
 
 // The PRNs. A satellite has 8 bytes (PRN first, flags 1 second), then 40 if bit 6 of flags 1 is set, then 24 if

@@ -8,6 +8,7 @@ use crate::ranked_lists::is_blank;
 use crate::ranked_lists::list_text;
 use crate::ranked_lists::times;
 use crate::tally::Tally;
+use crate::words::bits;
 use crate::words::flags;
 use crate::words::word;
 use signals::Signal;
@@ -32,28 +33,50 @@ pub fn run(rt: &LibcRuntime) -> Result<(), AnyError> {
     tally.print(rt)
 }
 
+// What the other decoder found in a survey.
+#[derive(Drop)]
+struct Found<'a> {
+    number: &'a str,
+    bits: u64,
+    count: usize,
+    pairs: Vec<Signal>,
+}
+
+fn read_found(heap: Global, line: &str) -> Result<Found<'_>, AnyError> {
+    let mut words = line.split_whitespace();
+    let _record = words.next();
+    let number = word(&mut words)?;
+    let _time = words.next();
+    let bits = bits(&mut words)?;
+    let count = word(&mut words)?.parse::<usize>()?;
+    let pairs = read_pairs(heap, words)?;
+    Ok(Found {
+        number,
+        bits,
+        count,
+        pairs,
+    })
+}
+
 // The line itself, where the code finds the same; else what it finds.
 fn ranked(heap: Global, bodies: &str, line: &str) -> Result<String, AnyError> {
-    let mut words = line.split_whitespace();
-    let _record = word(&mut words)?;
-    let number = word(&mut words)?;
-    let _time = word(&mut words)?;
-    let bits = word(&mut words)?;
-    let want_count = word(&mut words)?;
-    let body = part(heap, bodies, "record", number)?;
-    let flags = flags_of(bodies, number)?;
+    let found = read_found(heap, line)?;
+    let body = part(heap, bodies, "record", found.number)?;
+    let flags = flags_of(bodies, found.number)?;
     let mut list = blank_list(heap, PLACES)?;
     let Ok(count) = rank_signals(body.as_slice(), flags, list.as_mut_slice()) else {
         return Ok(String::from_str(heap, "a refusal")?);
     };
-    let pairs = read_pairs(heap, words)?;
-    if want_count.parse::<usize>() == Ok(count)
-        && is_received_at(heap, body.as_slice(), bits)?
-        && is_ranking(list.as_slice(), count, pairs.as_slice())
-    {
+    if is_found(&found, body.as_slice(), count, list.as_slice()) {
         return Ok(String::from_str(heap, line)?);
     }
     list_text(heap, count, list.as_slice())
+}
+
+fn is_found(found: &Found<'_>, body: &[u8], count: usize, list: &[Signal]) -> bool {
+    found.count == count
+        && is_received_at(body, found.bits)
+        && is_ranking(list, count, found.pairs.as_slice())
 }
 
 // The interpretation flags, which stand behind a record's number.
@@ -67,13 +90,11 @@ fn flags_of(bodies: &str, number: &str) -> Result<u8, AnyError> {
     Err("no record of this number".into())
 }
 
-fn is_received_at(heap: Global, body: &[u8], bits: &str) -> Result<bool, AnyError> {
-    let Ok(head) = head(body) else {
-        return Ok(false);
-    };
-    let time = head.receive_time;
-    let time = format!(heap, "{time:016X}")?;
-    Ok(time.as_str() == bits)
+fn is_received_at(body: &[u8], bits: u64) -> bool {
+    match head(body) {
+        Ok(head) => head.receive_time == bits,
+        Err(_) => false,
+    }
 }
 
 fn read_pairs(heap: Global, words: SplitWhitespace<'_>) -> Result<Vec<Signal>, AnyError> {

@@ -3,6 +3,7 @@ use crate::refusals::refusal_text;
 use crate::words::bytes;
 use crate::words::flags;
 use crate::words::number;
+use records::fault::RecordFault;
 use signals::Signal;
 use signals::rank_signals;
 use std::alloc::Global;
@@ -155,16 +156,20 @@ pub fn ranked_list(
     words: &mut SplitWhitespace<'_>,
     want: &str,
 ) -> Result<String, AnyError> {
-    let mut list = blank_list(heap, number(words)?)?;
+    let places = number(words)?;
     let flags = flags(words)?;
     let body = bytes(heap, words)?;
+    let mut list = blank_list(heap, places)?;
     match rank_signals(body.as_slice(), flags, list.as_mut_slice()) {
         Ok(count) => listed(heap, want, count, list.as_slice()),
-        Err(fault) => {
-            if !is_blank(list.as_slice()) {
-                return Ok(String::from_str(heap, "a refusal with the list changed")?);
-            }
-            refusal_text(heap, fault.refusal())
-        }
+        Err(fault) => refused(heap, fault, list.as_slice()),
     }
+}
+
+// The refusal, which leaves the list as it was.
+fn refused(heap: Global, fault: RecordFault, list: &[Signal]) -> Result<String, AnyError> {
+    if !is_blank(list) {
+        return Ok(String::from_str(heap, "a refusal with the list changed")?);
+    }
+    refusal_text(heap, fault.refusal())
 }

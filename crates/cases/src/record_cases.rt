@@ -18,7 +18,6 @@ use paging::fault::PageFault;
 use paging::raw_data::RawData;
 use paging::raw_data::RawDataScheme;
 use paging::scheme::Scheme;
-use records::fault::RecordFault;
 use records::kind::Kind;
 use records::position;
 use reading::read_report;

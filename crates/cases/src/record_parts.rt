@@ -67,11 +67,14 @@ fn add_satellite(text: &mut String, satellite: Satellite<'_>) -> Result<(), AnyE
 pub fn satellites_text(heap: Global, words: &mut SplitWhitespace<'_>) -> Result<String, AnyError> {
     let flags = flags(words)?;
     let body = bytes(heap, words)?;
+    match Satellites::new(body.as_slice(), flags) {
+        Ok(satellites) => each_satellite(heap, satellites),
+        Err(fault) => refusal_text(heap, fault.refusal()),
+    }
+}
+
+fn each_satellite(heap: Global, satellites: Satellites<'_>) -> Result<String, AnyError> {
     let mut text = String::new(heap);
-    let satellites = match Satellites::new(body.as_slice(), flags) {
-        Ok(satellites) => satellites,
-        Err(fault) => return refusal_text(heap, fault.refusal()),
-    };
     for found in satellites {
         match found {
             Ok(satellite) => add_satellite(&mut text, satellite)?,
@@ -97,11 +100,14 @@ fn add_record(text: &mut String, record: Record<'_>) -> Result<(), AnyError> {
 
 pub fn records_text(heap: Global, words: &mut SplitWhitespace<'_>) -> Result<String, AnyError> {
     let body = bytes(heap, words)?;
+    match Records::new(body.as_slice()) {
+        Ok(records) => each_record(heap, records),
+        Err(fault) => refusal_text(heap, fault.refusal()),
+    }
+}
+
+fn each_record(heap: Global, records: Records<'_>) -> Result<String, AnyError> {
     let mut text = String::new(heap);
-    let records = match Records::new(body.as_slice()) {
-        Ok(records) => records,
-        Err(fault) => return refusal_text(heap, fault.refusal()),
-    };
     for found in records {
         match found {
             Ok(record) => add_record(&mut text, record)?,

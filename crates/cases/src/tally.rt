@@ -29,10 +29,7 @@ impl Tally {
         if is_same(want, got) {
             return Ok(());
         }
-        self.differing = self.differing.saturating_add(1);
-        let group = self.group;
-        println!(rt, "{group}: {case}: expected {want}, got {got}")?;
-        Ok(())
+        self.differs(rt, case, want, got)
     }
 
     // Counts a case whose answer is lines, and prints the first line that differs.
@@ -43,12 +40,25 @@ impl Tally {
         want: &str,
         got: &str,
     ) -> Result<(), AnyError> {
+        self.compared = self.compared.saturating_add(1);
         if is_same(want, got) {
-            self.compared = self.compared.saturating_add(1);
             return Ok(());
         }
         let at = lines_alike(want, got);
-        self.compare(rt, case, line_at(want, at), line_at(got, at))
+        self.differs(rt, case, line_at(want, at), line_at(got, at))
+    }
+
+    fn differs(
+        &mut self,
+        rt: &LibcRuntime,
+        case: &str,
+        want: &str,
+        got: &str,
+    ) -> Result<(), AnyError> {
+        self.differing = self.differing.saturating_add(1);
+        let group = self.group;
+        println!(rt, "{group}: {case}: expected {want}, got {got}")?;
+        Ok(())
     }
 
     pub fn print(&self, rt: &LibcRuntime) -> Result<(), AnyError> {
@@ -82,5 +92,5 @@ fn line_at(text: &str, at: usize) -> &str {
             return line;
         }
     }
-    "no such line"
+    "no more lines"
 }

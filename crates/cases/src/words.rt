@@ -36,9 +36,12 @@ pub fn flags(words: &mut SplitWhitespace<'_>) -> Result<u8, AnyError> {
     Ok(word(words)?.parse::<u8>()?)
 }
 
-// Bytes in hex digits, `-` for none.
+// A word of bytes in hex digits, `-` for none.
 pub fn bytes(heap: Global, words: &mut SplitWhitespace<'_>) -> Result<Vec<u8>, AnyError> {
-    let text = word(words)?;
+    bytes_of(heap, word(words)?)
+}
+
+pub fn bytes_of(heap: Global, text: &str) -> Result<Vec<u8>, AnyError> {
     if text == "-" {
         return Ok(Vec::new(heap));
     }
