@@ -15,11 +15,11 @@ use paging::app_file::AppFile;
 use paging::app_file::AppFileScheme;
 use paging::raw_data::RawData;
 use paging::raw_data::RawDataScheme;
-use writing::write_report;
 use std::alloc::Global;
 use std::error::AnyError;
 use std::fs;
 use std::str::SplitWhitespace;
+use writing::write_report;
 
 // What stands in a destination before the call.
 const FILL: u8 = 0xEE;
