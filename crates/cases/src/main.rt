@@ -2,21 +2,15 @@
 // vectors, and one for each difference.
 //
 // Every case is brought to text in the form of its file, so that what is compared is text with text.
-mod captures;
-mod hex_text;
-mod outside_pages;
-mod outside_signals;
-mod rank_cases;
-mod ranked_lists;
-mod record_cases;
-mod record_parts;
-mod refusals;
-mod tally;
-mod words;
 mod worked_cases;
-mod writer_cases;
 
+use record_vectors::outside_signals;
+use record_vectors::record_cases;
 use std::error::AnyError;
+use stream_vectors::captures;
+use stream_vectors::outside_pages;
+use stream_vectors::rank_cases;
+use stream_vectors::writer_cases;
 
 fn run(rt: &LibcRuntime) -> Result<(), AnyError> {
     captures::run(rt)?;

@@ -1,12 +1,4 @@
 // The worked cases, once more by the code; those that `worked` proves are among them.
-use crate::hex_text::add_hex;
-use crate::record_cases;
-use crate::refusals::refusal_text;
-use crate::tally::Tally;
-use crate::words::bits;
-use crate::words::halves;
-use crate::words::is_remark;
-use crate::words::word;
 use answers::Hex;
 use answers::HexDisplay;
 use answers::log;
@@ -14,10 +6,18 @@ use fixes::double::rank_key;
 use packet::read::Packet;
 use packet::read::Start;
 use packet::read::read;
+use record_vectors::record_cases;
 use std::alloc::Global;
 use std::error::AnyError;
 use std::fs;
 use std::str::SplitWhitespace;
+use vectors::hex_text::add_hex;
+use vectors::refusals::refusal_text;
+use vectors::tally::Tally;
+use vectors::words::bits;
+use vectors::words::halves;
+use vectors::words::is_remark;
+use vectors::words::word;
 use worked::worked_cases_hold;
 
 pub fn run(rt: &LibcRuntime) -> Result<(), AnyError> {

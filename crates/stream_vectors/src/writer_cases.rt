@@ -1,12 +1,4 @@
 // The cases of writers.txt: the packet writer and the page writer.
-use crate::hex_text::from_hex;
-use crate::refusals::refusal_text;
-use crate::tally::Tally;
-use crate::words::byte;
-use crate::words::halves;
-use crate::words::is_remark;
-use crate::words::number;
-use crate::words::word;
 use answers::Hex;
 use answers::HexDisplay;
 use packet::write::WriteFault;
@@ -19,6 +11,14 @@ use std::alloc::Global;
 use std::error::AnyError;
 use std::fs;
 use std::str::SplitWhitespace;
+use vectors::hex_text::from_hex;
+use vectors::refusals::refusal_text;
+use vectors::tally::Tally;
+use vectors::words::byte;
+use vectors::words::halves;
+use vectors::words::is_remark;
+use vectors::words::number;
+use vectors::words::word;
 use writing::write_report;
 
 // What stands in a destination before the call.

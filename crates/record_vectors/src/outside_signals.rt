@@ -2,15 +2,10 @@
 //
 // A survey has a line `record NUMBER TIME BITS COUNT PRN:SNR ..`, in the order of the record: BITS is its receive
 // time, and the pairs are the COUNT satellites with an L1 part.
-use crate::hex_text::part;
 use crate::ranked_lists::blank_list;
 use crate::ranked_lists::is_blank;
 use crate::ranked_lists::list_text;
 use crate::ranked_lists::times;
-use crate::tally::Tally;
-use crate::words::bits;
-use crate::words::flags;
-use crate::words::word;
 use records::survey::head;
 use signals::Signal;
 use signals::rank_signals;
@@ -18,6 +13,11 @@ use std::alloc::Global;
 use std::error::AnyError;
 use std::fs;
 use std::str::SplitWhitespace;
+use vectors::hex_text::part;
+use vectors::tally::Tally;
+use vectors::words::bits;
+use vectors::words::flags;
+use vectors::words::word;
 
 // The places of the list that is lent: more than a survey may fill.
 const PLACES: u32 = 40;

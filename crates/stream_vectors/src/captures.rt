@@ -1,8 +1,4 @@
 // The captures: the answers of their pulls, and the rows of their boards.
-use crate::hex_text::from_hex;
-use crate::tally::Tally;
-use crate::words::is_remark;
-use crate::words::word;
 use answers::log;
 use line::Capture;
 use line::CaptureLine;
@@ -17,6 +13,10 @@ use rows::board_text;
 use std::alloc::Global;
 use std::error::AnyError;
 use std::fs;
+use vectors::hex_text::from_hex;
+use vectors::tally::Tally;
+use vectors::words::is_remark;
+use vectors::words::word;
 
 pub fn run(rt: &LibcRuntime) -> Result<(), AnyError> {
     let names = fs::read_to_string(rt, "captures.txt")?;

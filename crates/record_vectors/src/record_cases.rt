@@ -2,16 +2,6 @@
 use crate::ranked_lists::ranked_list;
 use crate::record_parts::records_text;
 use crate::record_parts::satellites_text;
-use crate::refusals::reading_text;
-use crate::refusals::refusal_text;
-use crate::tally::Tally;
-use crate::words::byte;
-use crate::words::bytes;
-use crate::words::flags;
-use crate::words::halves;
-use crate::words::is_remark;
-use crate::words::number;
-use crate::words::word;
 use paging::app_file::AppFile;
 use paging::app_file::AppFileScheme;
 use paging::fault::PageFault;
@@ -26,6 +16,16 @@ use std::alloc::Global;
 use std::error::AnyError;
 use std::fs;
 use std::str::SplitWhitespace;
+use vectors::refusals::reading_text;
+use vectors::refusals::refusal_text;
+use vectors::tally::Tally;
+use vectors::words::byte;
+use vectors::words::bytes;
+use vectors::words::flags;
+use vectors::words::halves;
+use vectors::words::is_remark;
+use vectors::words::number;
+use vectors::words::word;
 
 // The packet types of the two schemes.
 const RAW_DATA: u8 = 0x57;

@@ -1,12 +1,12 @@
 // The cases of ranks.txt: the rank keys and thousandths of DOUBLE patterns.
-use crate::tally::Tally;
-use crate::words::bits;
-use crate::words::is_remark;
-use crate::words::word;
 use fixes::double::rank_key;
 use fixes::double::thousandths;
 use std::error::AnyError;
 use std::fs;
+use vectors::tally::Tally;
+use vectors::words::bits;
+use vectors::words::is_remark;
+use vectors::words::word;
 
 pub fn run(rt: &LibcRuntime) -> Result<(), AnyError> {
     let text = fs::read_to_string(rt, "ranks.txt")?;

@@ -3,14 +3,14 @@
 // The reports are surveys in an expanded form (record type 0, no flags), which is of no kind here: each is
 // delivered whole, with reading 16. A stream has a line `epoch TIME BITS COUNT PRN PRN ..` for each report
 // that the decoder joined: BITS are bytes 0 to 7, COUNT is byte 16, and the PRNs are those of its satellites.
-use crate::hex_text::part;
-use crate::tally::Tally;
-use crate::words::bytes_of;
 use answers::log;
 use records::survey::head;
 use std::alloc::Global;
 use std::error::AnyError;
 use std::fs;
+use vectors::hex_text::part;
+use vectors::tally::Tally;
+use vectors::words::bytes_of;
 
 pub fn run(rt: &LibcRuntime) -> Result<(), AnyError> {
     let streams = fs::read_to_string(rt, "outside/rtklib-pages.hex")?;

@@ -1,14 +1,14 @@
 // Ranked lists of signals. The order among equal SNR is free, so a list is held against groups of equal SNR.
-use crate::refusals::refusal_text;
-use crate::words::bytes;
-use crate::words::flags;
-use crate::words::number;
 use records::fault::RecordFault;
 use signals::Signal;
 use signals::rank_signals;
 use std::alloc::Global;
 use std::error::AnyError;
 use std::str::SplitWhitespace;
+use vectors::refusals::refusal_text;
+use vectors::words::bytes;
+use vectors::words::flags;
+use vectors::words::number;
 
 // What stands in a list before the call.
 const BLANK: Signal = Signal {

@@ -1,7 +1,4 @@
 // What the cursors over surveys and application files hand out, as text.
-use crate::refusals::refusal_text;
-use crate::words::bytes;
-use crate::words::flags;
 use answers::Hex;
 use answers::HexDisplay;
 use application::Record;
@@ -13,6 +10,9 @@ use records::survey::SatellitesIterator;
 use std::alloc::Global;
 use std::error::AnyError;
 use std::str::SplitWhitespace;
+use vectors::refusals::refusal_text;
+use vectors::words::bytes;
+use vectors::words::flags;
 
 // A part in hex, `-` where it is not there.
 fn part(bytes: Option<&[u8]>) -> Hex<'_> {
