@@ -12,6 +12,8 @@
 // BYTE, STATUS and TYPE are two hex digits, the other numbers decimal. READING is 0, or the refusal's
 // NUMBER/LAYER/PLACE. DATA and BODY are the bytes that the pull wrote, in hex, `-` for none. `log` has the
 // lines of a whole capture.
+#![tactic(auto)]
+
 mod answer_line;
 mod capture_log;
 mod hex;

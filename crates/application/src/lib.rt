@@ -1,4 +1,6 @@
 // An application file: a version, three control bytes of any value, then records of type, length and bytes.
+#![tactic(auto)]
+
 ghost use Rattle.std.specs.Prelude.{◌≡◌, ℕ, ◌+◌, ◌≤◌, Bool, true, length};
 ghost use Rattle.std.specs.List.{prefix_len};
 ghost use Rattle.records.specs.Faults.{reading_of};

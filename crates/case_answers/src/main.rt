@@ -2,6 +2,8 @@
 //
 // A case is a line: a word for what is asked, numbers, and bytes; docs/FORMAT.md has the words. A line that is
 // empty or begins with # is copied.
+#![tactic(auto)]
+
 mod case;
 mod parts;
 mod ranked;

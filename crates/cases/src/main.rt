@@ -2,6 +2,8 @@
 // vectors, and one for each difference.
 //
 // Every case is brought to text in the form of its file, so that what is compared is text with text.
+#![tactic(auto)]
+
 mod worked_cases;
 
 use record_vectors::{outside_signals, record_cases};

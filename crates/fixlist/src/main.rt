@@ -1,4 +1,6 @@
 // Prints the board of the best fixes from a raw capture on standard input.
+#![tactic(auto)]
+
 use line::read_ahead::ReadAhead;
 use line::{Capture, Line};
 use link::Link;

@@ -1,9 +1,9 @@
 -- Bytes passed over, one by one.
-use Rattle.std.proofs.Common.{◌≡◌, ℕ, suc, ◌+◌, ◌-◌, ◌<◌, ◌≤◌, min, max, Bool, true, false, cond, ◌&&◌, ◌||◌, eqb, List, [], ◌∷◌, ◌++◌, length, take, drop, Some, None, Option, sym, refl, ap, ◌∙◌, add-one, arith, length-drop}
+use Rattle.std.proofs.Common.{◌≡◌, ℕ, ◌+◌, ◌≤◌, max, Bool, true, false, cond, ◌&&◌, ◌||◌, eqb, List, [], ◌∷◌, ◌++◌, length, take, drop, Some, None, Option, sym, refl, ap, ◌∙◌, add-one, arith, length-drop}
 use Rattle.std.proofs.lemmas.List.{take_at, drop_at, drop-take, drop-drop, drop-append-le}
-use Rattle.std.proofs.lemmas.Bool.{or_parts, false≢true}
-use Rattle.protocol.specs.Pulls.{Found, found, is_signal}
-use Rattle.held.specs.Streams.{head_of, stops, passed, seen, unseen, found_held, found_waiting}
+use Rattle.std.proofs.lemmas.Bool.{false≢true}
+use Rattle.protocol.specs.Pulls.{Found, is_signal}
+use Rattle.held.specs.Streams.{head_of, stops, passed, found_held, found_waiting}
 
 pick : (x y : Bool) (a b c : Found) → (x || y) ≡ true → a.passed ≡ 0 → b.passed ≡ 0 → (cond x a (cond y b c)).passed ≡ 0
 pick true y a b c e p q = p

@@ -1,11 +1,11 @@
 -- What a read header says of the scheme's own reading.
-use Rattle.std.proofs.Common.{◌≡◌, ℕ, ◌+◌, ◌-◌, ◌<◌, ◌≤◌, Bool, true, false, cond, ◌&&◌, eqb, leb, ◌⊎◌, List, [], ◌∷◌, ◌++◌, length, take, drop, Ok, Err, Result, sym, refl, ap, ◌∙◌, inl, inr, ⊎_elim, arith}
+use Rattle.std.proofs.Common.{◌≡◌, ℕ, ◌-◌, ◌≤◌, List, length, take, drop, Ok, Err, sym, ap, ◌∙◌, ⊎_elim, arith}
 use Rattle.std.proofs.lemmas.List.{take_rest}
 use Rattle.std.proofs.lemmas.Bool.{cases_lt}
 use Rattle.paging.specs.declared.fault.PageFault.{PageFault}
 use Rattle.paging.specs.Schemes.{Scheme, Header, Head, reads, too_short, unfit, Laws}
 use Rattle.paging.specs.Headers.{answered, read_by, page_refusal}
-use Rattle.joining.specs.Joining.{Held, no_pages, Joined, Collected, refuses, placed, collected, read_page}
+use Rattle.joining.specs.Joining.{Held, no_pages, Collected, refuses, placed, collected, read_page}
 
 inverted : (n place k p t : ℕ) (r : Head) → Ok (k, p, t) ≡ answered n place r → r ≡ reads (record { key = k; page = p; total = t })
 inverted n place k p t (reads h) e =

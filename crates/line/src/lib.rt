@@ -2,6 +2,8 @@
 //
 // `Line` is its one operation; a `Capture` is raw bytes in the caller's memory; a `ReadAhead` stands
 // over any other line and takes up to 64 bytes from it at a time.
+#![tactic(auto)]
+
 ghost use Rattle.std.specs.Prelude.{◌≡◌, ℕ, ◌+◌, List, drop};
 ghost use Rattle.line.specs.Takes.{Taken};
 

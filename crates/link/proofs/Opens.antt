@@ -1,8 +1,8 @@
 -- What comes of a stream that begins with a start byte.
-use Rattle.std.proofs.Common.{◌≡◌, ℕ, ◌+◌, ◌-◌, ◌<◌, ◌≤◌, min, max, Bool, true, false, cond, eqb, List, [], ◌∷◌, ◌++◌, length, get_or, take, drop, sym, refl, ap, ◌∙◌, zero-add, arith}
+use Rattle.std.proofs.Common.{◌≡◌, ℕ, ◌+◌, ◌-◌, ◌≤◌, max, Bool, true, false, cond, eqb, List, ◌++◌, length, get_or, take, drop, sym, refl, ap, ◌∙◌, zero-add, arith}
 use Rattle.std.proofs.lemmas.List.{take_all, drop_all, drop-drop, drop_at}
 use Rattle.refusal.specs.declared.Refusal.{Refusal}
-use Rattle.packet.specs.Packets.{Packet, Front, short, no_end, bad_sum, lawful, front, claimed, parsed}
+use Rattle.packet.specs.Packets.{Packet, short, lawful, front, claimed, parsed}
 use Rattle.packet.specs.Reads.{Reads, packet_refusal}
 use Rattle.packet.specs.declared.read.PacketFault.{PacketFault}
 use Rattle.packet.specs.declared.read.PacketFault.TheVariants.{NoEnd, WrongSum}
@@ -11,7 +11,7 @@ use Rattle.paging.specs.Schemes.{Scheme}
 use Rattle.joining.specs.Joining.{Held, Collected, collected}
 use Rattle.protocol.specs.Links.{Answer, Link, idle, other, refused, Reading, Fixing, Entering}
 use Rattle.fixes.specs.declared.fix.Fix.{Fix}
-use Rattle.protocol.specs.Pulls.{Event, Pull, Outcome, partial, broken, packet, at_start, left, holding, answer_to, board_after, written_by, routed, done, outcome_of, put}
+use Rattle.protocol.specs.Pulls.{Pull, Outcome, broken, at_start, left, answer_to, board_after, written_by, routed, done, outcome_of, put}
 use Rattle.link.specs.Routes.{Joint, joint, Route, route, opened}
 use Rattle.held.proofs.Fills.{Filled}
 use Rattle.link.proofs.Fronts.{front_seen, size_seen, short_length, lawful_size}

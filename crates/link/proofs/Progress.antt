@@ -1,17 +1,14 @@
 -- A pull that is not idle leaves a shorter stream; an idle one leaves nothing waiting.
-use Rattle.std.proofs.Common.{◌≡◌, ℕ, ◌+◌, ◌-◌, ◌<◌, ◌≤◌, min, max, Bool, true, false, cond, ltb, ◌⊎◌, List, [], ◌∷◌, ◌++◌, length, take, drop, sym, refl, ap, ◌∙◌, subst, inl, inr, ⊎_elim, arith, length-append, length-drop, length-take}
+use Rattle.std.proofs.Common.{◌≡◌, ℕ, ◌+◌, ◌-◌, ◌<◌, ◌≤◌, max, List, [], ◌++◌, length, take, drop, sym, refl, ap, ◌∙◌, ⊎_elim, arith, length-append, length-drop, length-take}
 use Rattle.std.proofs.lemmas.List.{nil_from_length, drop_all}
 use Rattle.std.proofs.lemmas.Bool.{cond-false, le-ltb, cases_lt}
-use Rattle.refusal.specs.declared.Refusal.{Refusal}
 use Rattle.packet.specs.Packets.{claimed}
 use Rattle.paging.specs.Schemes.{Scheme}
-use Rattle.protocol.specs.Links.{Answer, Link, idle, Reading, Fixing, Entering}
-use Rattle.fixes.specs.declared.fix.Fix.{Fix}
+use Rattle.protocol.specs.Links.{Link, idle, Reading, Fixing, Entering}
 use Rattle.protocol.specs.Pulls.{Event, Outcome, empty, partial, sign, broken, packet, found, left, done, outcome_of, pull_full, pulled}
-use Rattle.protocol.proofs.Pulls.{NotIdle, not_idle, routed_not_idle}
+use Rattle.protocol.proofs.Pulls.{not_idle, routed_not_idle}
 use Rattle.held.specs.Streams.{passed}
-use Rattle.link.specs.Routes.{route}
-use Rattle.link.proofs.Opens.{by_route, routed_is}
+use Rattle.link.proofs.Opens.{routed_is}
 
 -- how many bytes an outcome leaves, held and waiting
 abbrev pub remains : Outcome → ℕ

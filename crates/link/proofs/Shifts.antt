@@ -1,14 +1,11 @@
 -- A pull from behind the bytes passed over.
-use Rattle.std.proofs.Common.{◌≡◌, ℕ, suc, ◌+◌, ◌-◌, ◌<◌, ◌≤◌, min, max, Bool, true, false, cond, ◌&&◌, ◌||◌, eqb, ltb, List, [], ◌∷◌, ◌++◌, length, get_or, take, drop, Some, None, Option, sym, refl, ap, ◌∙◌, zero-add, add-one, arith, length-append, length-drop, length-take}
-use Rattle.std.proofs.lemmas.List.{take_all, drop_all, drop-drop, drop-take, drop_at, take_at, take-append-drop, drop-append-le, nil_from_length}
+use Rattle.std.proofs.Common.{◌≡◌, ℕ, ◌+◌, ◌-◌, ◌≤◌, max, Bool, true, false, cond, ◌&&◌, eqb, List, [], ◌∷◌, ◌++◌, length, take, drop, Some, None, sym, refl, ap, ◌∙◌, zero-add, arith, length-append, length-drop, length-take}
+use Rattle.std.proofs.lemmas.List.{drop_all, drop-drop, drop-take, take_at, take-append-drop, drop-append-le}
 use Rattle.std.proofs.lemmas.Bool.{cond-true, cond-false, le-ltb, ne_eqb, or_from}
-use Rattle.refusal.specs.declared.Refusal.{Refusal}
-use Rattle.packet.specs.Packets.{Packet, front, claimed}
+use Rattle.packet.specs.Packets.{front, claimed}
 use Rattle.paging.specs.Schemes.{Scheme}
-use Rattle.joining.specs.Joining.{Held}
-use Rattle.protocol.specs.Links.{Answer, Link, idle, signal, refused, Reading, Fixing, Entering}
-use Rattle.fixes.specs.declared.fix.Fix.{Fix}
-use Rattle.protocol.specs.Pulls.{Event, Found, Pull, Outcome, empty, partial, sign, broken, packet, is_signal, found, at_start, left, holding, routed, done, outcome_of, put, pull, pulled}
+use Rattle.protocol.specs.Links.{Link, idle, signal, refused, Reading, Fixing, Entering}
+use Rattle.protocol.specs.Pulls.{Event, Found, Outcome, empty, partial, sign, broken, packet, is_signal, found, at_start, left, holding, done, outcome_of, pulled}
 use Rattle.held.specs.Streams.{head_of, passed, found_held, found_waiting}
 use Rattle.link.specs.Routes.{route, opened}
 use Rattle.held.proofs.Finds.{head_some, head_none, step_rest}

@@ -1,5 +1,5 @@
 -- Each fault of the link with its number, its layer and its place.
-use Rattle.std.specs.Prelude.{ℕ, Ok, Err, Result}
+use Rattle.std.specs.Prelude.{Ok, Err, Result}
 use Rattle.refusal.specs.declared.Refusal.{Refusal}
 use Rattle.packet.specs.Reads.{packet_refusal}
 use Rattle.records.specs.Faults.{accepted, record_refusal}

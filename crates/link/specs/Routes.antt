@@ -1,12 +1,11 @@
 -- What comes of a page, of a lawful packet, and of a stream that begins with a start byte.
-use Rattle.std.specs.Prelude.{ℕ, ◌+◌, max, Bool, true, false, cond, ◌&&◌, ◌||◌, List, [], ◌∷◌, ◌++◌, length, ◌==◌}
-use Rattle.refusal.specs.declared.Refusal.{Refusal}
+use Rattle.std.specs.Prelude.{ℕ, cond, List, ◌++◌, length, ◌==◌}
 use Rattle.packet.specs.Packets.{Packet, front}
 use Rattle.paging.specs.Schemes.{Scheme}
 use Rattle.joining.specs.Joining.{Held, Collected, collected}
 use Rattle.protocol.specs.Links.{Answer, Link, other, Reading, Fixing, Entering}
 use Rattle.fixes.specs.declared.fix.Fix.{Fix}
-use Rattle.protocol.specs.Pulls.{Event, Outcome, found, is_signal, at_start, answer_to, board_after, written_by, put, done, outcome_of}
+use Rattle.protocol.specs.Pulls.{Outcome, at_start, answer_to, board_after, written_by, put, done, outcome_of}
 
 -- what comes of a page
 pub record Joint : Type 0 where

@@ -3,6 +3,8 @@
 //
 // A `Link` is over any two page schemes, and a pull over any line. `Answer` is what a pull answers,
 // `LinkFault` what is refused. The rules of a pull are the definitions of the crate `protocol`.
+#![tactic(auto)]
+
 mod answer;
 mod fault;
 mod link;

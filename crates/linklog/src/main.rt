@@ -1,4 +1,6 @@
 // Prints the answer of every pull over a raw capture on standard input.
+#![tactic(auto)]
+
 use answers::log;
 use std::io::Read;
 

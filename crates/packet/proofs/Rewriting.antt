@@ -1,8 +1,8 @@
 -- What is written reads back, and what was read is written as it was.
-use Rattle.std.proofs.Common.{◌≡◌, ℕ, ◌+◌, ◌<◌, ◌≤◌, List, [], ◌∷◌, ◌++◌, length, get_or, take, sym, ap, ◌∙◌, subst, arith}
+use Rattle.std.proofs.Common.{◌≡◌, ◌+◌, ◌<◌, [], ◌∷◌, length, get_or, sym, ap, ◌∙◌, subst, arith}
 use Rattle.std.proofs.lemmas.List.{take_all}
 use Rattle.packet.specs.Bytes.{AreBytes}
-use Rattle.packet.specs.Packets.{Packet, frame, claimed, parsed, checksum_of, lawful, front}
+use Rattle.packet.specs.Packets.{Packet, frame, checksum_of, lawful}
 use Rattle.packet.specs.Laws.{LawfulPacketRewritesItself, WrittenPacketReadsBack}
 use Rattle.packet.proofs.Bytes.{bytes_append}
 use Rattle.packet.proofs.Fronts.{Fits, front_fits, front_stands, content_size, front_frame}

@@ -1,7 +1,7 @@
 -- The bytes of a packet, written one after the other to the start of a destination.
-use Rattle.std.proofs.Common.{◌≡◌, ℕ, ◌+◌, ◌-◌, ◌<◌, ◌≤◌, List, [], ◌∷◌, ◌++◌, length, get_or, take, drop, set, sym, refl, ap, ◌∙◌, append_assoc, arith}
+use Rattle.std.proofs.Common.{◌≡◌, ℕ, ◌+◌, ◌-◌, ◌≤◌, List, [], ◌∷◌, ◌++◌, length, get_or, drop, set, sym, ap, ◌∙◌, append_assoc, arith}
 use borrow.Rule.Slice.PartMut.{put_mid}
-use Rattle.std.proofs.lemmas.List.{set_at, drop_more, drop-drop, length-append, length_push}
+use Rattle.std.proofs.lemmas.List.{set_at, drop_more, drop-drop, length_push}
 
 -- two neighbours are written
 pub two_written : (p : List ℕ) (m n a b x y : ℕ) (q : List ℕ) → length p ≡ m → m + 1 ≡ n

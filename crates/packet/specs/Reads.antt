@@ -1,7 +1,7 @@
 -- What the checks of a packet answer.
 use Rattle.std.specs.Prelude.{◌≡◌, ℕ, ◌+◌, ◌≤◌, List, length, take, drop, slice_index}
 use Rattle.refusal.specs.declared.Refusal.{Refusal}
-use Rattle.packet.specs.Packets.{Packet, short, no_end, bad_sum, lawful, front, parsed}
+use Rattle.packet.specs.Packets.{short, no_end, bad_sum, lawful, front, parsed}
 use Rattle.packet.specs.declared.read.PacketFault.{PacketFault}
 use Rattle.packet.specs.declared.read.PacketFault.TheVariants.{NoEnd, WrongSum}
 use Rattle.packet.specs.declared.read.Start.{Start}

@@ -1,5 +1,5 @@
 -- The scheme of RAWDATA: record type, paging byte, reply number, interpretation flags.
-use Rattle.std.specs.Prelude.{ℕ, ◌+◌, ◌*◌, ◌/◌, ◌%◌, cond, ◌&&◌, List, [], ◌∷◌, length, ◌==◌, nat_le, nat_lt, slice_index}
+use Rattle.std.specs.Prelude.{ℕ, ◌+◌, ◌*◌, ◌/◌, ◌%◌, cond, ◌&&◌, [], ◌∷◌, length, ◌==◌, nat_le, nat_lt, slice_index}
 use Rattle.records.specs.declared.kind.Kind.TheVariants.{Position, Survey, None}
 use Rattle.paging.specs.Schemes.{Scheme, Head, reads, too_short, unfit}
 

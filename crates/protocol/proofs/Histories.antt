@@ -6,7 +6,7 @@ use Rattle.packet.specs.Bytes.{AreBytes}
 use Rattle.packet.specs.Packets.{Packet, claimed}
 use Rattle.paging.specs.Schemes.{Scheme}
 use Rattle.fixes.specs.declared.fix.Fix.{Fix}
-use Rattle.joining.specs.Joining.{no_pages, Held}
+use Rattle.joining.specs.Joining.{Held}
 use Rattle.protocol.specs.Links.{Link, fresh, forgotten, Reading, Fixing, Entering}
 use Rattle.protocol.specs.Pulls.{Event, empty, partial, sign, broken, packet, found, Pull, pull, done, routed, left, holding}
 use Rattle.protocol.specs.Runs.{Given, given, Reached}

@@ -3,6 +3,8 @@
 // This crate has definitions and proofs, and no code that runs: the contracts of the link are stated
 // over `specs/`, and the promises below are theorems over the same definitions, for every two page
 // schemes with their laws, every reading of reports and every order of fixes.
+#![tactic(auto)]
+
 ghost use Rattle.protocol.specs.Promises.{ReportSurvivesZeros, PagesStandWhole, BoardHoldsTheBest, RoomNeverRefuses, ForLawfulSchemes, ForOrders};
 ghost use Rattle.protocol.specs.Written.{WrittenReportComesBack};
 

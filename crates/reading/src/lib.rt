@@ -1,4 +1,6 @@
 // The reading of a report by its kind.
+#![tactic(auto)]
+
 ghost use Rattle.std.specs.Prelude.{◌≡◌};
 ghost use Rattle.records.specs.Faults.{reading_of};
 ghost use Rattle.reading.specs.Readings.{reading};

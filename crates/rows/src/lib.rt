@@ -2,6 +2,8 @@
 //
 // A row is the rank of a fix, the reply number in its key, its time, its satellites and the thousandths of
 // its PDOP, in right-aligned columns, and a newline.
+#![tactic(auto)]
+
 ghost use Rattle.std.specs.Prelude.{◌≡◌, ◌++◌, IfSome, IfOk, string_bytes, OnOk};
 ghost use Rattle.link.specs.Views.{state_of};
 ghost use Rattle.rows.specs.Rows.{row_of, column, row_text, board_text};
@@ -10,7 +12,7 @@ use fixes::Fix;
 use fixes::double::thousandths;
 use link::Link;
 use paging::scheme::Scheme;
-use std::alloc::Global;
+use std::alloc::{AllocError, Global};
 use std::fmt;
 
 // The board's places.
@@ -29,7 +31,7 @@ pub struct Row {
 pub fn board_text<A: Scheme, B: Scheme>(
     heap: Global,
     link: &Link<A, B>,
-) -> Result<String, fmt::Error>
+) -> Result<String, AllocError>
     ensures { IfOk result (λ text. string_bytes text ≡ board_text (state_of link.now).board) }
 {
     let mut text = String::new(heap);
@@ -68,7 +70,7 @@ impl fmt::Display for Row {
     }
 }
 
-fn add_row(text: &mut String, row: Row) -> fmt::Result
+fn add_row(text: &mut String, row: Row) -> Result<(), AllocError>
     ensures { OnOk result (string_bytes text.new ≡ string_bytes text.old ++ row_text row) }
 {
     add_number(text, 4, row.rank)?;
@@ -81,17 +83,19 @@ fn add_row(text: &mut String, row: Row) -> fmt::Result
 
 // Adds a column with what a value prints. No contract speaks of a format's width, so the text is made first
 // and then measured.
-fn add_number<D: fmt::Display + Drop>(text: &mut String, width: usize, value: D) -> fmt::Result
-    ensures { OnOk result (IfSome (output value) (λ digits. string_bytes text.new ≡ string_bytes text.old ++ column width digits)) }
+fn add_number<D: fmt::Display + Drop>(
+    text: &mut String,
+    width: usize,
+    value: D,
+) -> Result<(), AllocError>
+    ensures { OnOk result (IfSome (D.output value) (λ digits. string_bytes text.new ≡ string_bytes text.old ++ column width digits)) }
 {
-    let Ok(digits) = value.to_string(text.allocator()) else {
-        return Err(fmt::Error);
-    };
+    let digits = value.to_string(*text.allocator())?;
     add_column(text, width, digits.as_str())
 }
 
 // Adds a text with spaces before it, up to a width.
-fn add_column(text: &mut String, width: usize, digits: &str) -> fmt::Result
+fn add_column(text: &mut String, width: usize, digits: &str) -> Result<(), AllocError>
     ensures { OnOk result (string_bytes text.new ≡ string_bytes text.old ++ column width digits.now) }
 {
     for _place in 0..width.saturating_sub(digits.len()) {

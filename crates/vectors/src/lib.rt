@@ -1,5 +1,7 @@
 // What the comparison with vectors is made of: the words of a line, bytes as hex text, refusals as text,
 // and the tally of a group of cases.
+#![tactic(auto)]
+
 pub mod hex_text;
 pub mod refusals;
 pub mod tally;

@@ -1,12 +1,12 @@
 -- How many pages a report has, and how long they are.
-use Rattle.std.proofs.Common.{◌≡◌, ℕ, zero, suc, ◌+◌, ◌-◌, ◌*◌, ◌/◌, ◌<◌, ◌≤◌, min, ◌⊎◌, List, [], ◌∷◌, ◌++◌, length, take, drop, sym, refl, ap, ◌∙◌, inl, inr, ⊎_elim, append_assoc, append-nil, add-zero, mul-le-mul_right, suc-mul, lt_of_mul-lt-mul_right, mul-pos, zero-add, div-mul-le_self, arith}
+use Rattle.std.proofs.Common.{◌≡◌, ℕ, zero, suc, ◌+◌, ◌-◌, ◌*◌, ◌/◌, ◌<◌, ◌≤◌, min, List, [], ◌∷◌, ◌++◌, length, drop, sym, refl, ap, ◌∙◌, ⊎_elim, append_assoc, append-nil, add-zero, mul-le-mul_right, suc-mul, lt_of_mul-lt-mul_right, mul-pos, zero-add, div-mul-le_self, arith}
 use native.Mathlib.Nat.{lt-div-mul-add}
 use Rattle.std.proofs.lemmas.List.{length-append, length-take, length-drop}
 use Rattle.std.proofs.lemmas.Bool.{cases_lt}
 use Rattle.packet.specs.Packets.{Packet, frame, frames}
 use Rattle.packet.proofs.Fronts.{length_frame}
-use Rattle.paging.specs.Schemes.{Scheme, Header, Within, Laws}
-use Rattle.writing.specs.Writes.{body_size, page_count, part_of, page_of, pages_from, written}
+use Rattle.paging.specs.Schemes.{Scheme, Within, Laws}
+use Rattle.writing.specs.Writes.{body_size, part_of, page_of, pages_from, written}
 
 pub frames_append : (ps qs : List Packet) → frames (ps ++ qs) ≡ frames ps ++ frames qs
 frames_append [] qs = refl

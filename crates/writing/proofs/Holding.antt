@@ -1,10 +1,10 @@
 -- The pages of a report hold it.
-use Rattle.std.proofs.Common.{◌≡◌, ℕ, zero, suc, ◌+◌, ◌-◌, ◌*◌, ◌/◌, ◌<◌, ◌≤◌, min, List, [], ◌∷◌, ◌++◌, length, take, drop, sym, refl, ap, ◌∙◌, subst, suc-mul, zero-mul, add-one, arith}
-use Rattle.std.proofs.lemmas.List.{take-append-drop, take-take, drop-take, drop-drop, take_all, length-take, length-drop}
+use Rattle.std.proofs.Common.{◌≡◌, ℕ, zero, suc, ◌+◌, ◌-◌, ◌*◌, ◌/◌, ◌<◌, ◌≤◌, List, ◌++◌, length, take, drop, sym, refl, ap, ◌∙◌, subst, suc-mul, zero-mul, add-one, arith}
+use Rattle.std.proofs.lemmas.List.{take-append-drop, take-take, drop-take, drop-drop, take_all}
 use Rattle.packet.specs.Bytes.{concat}
 use Rattle.paging.specs.Schemes.{Scheme, Laws}
-use Rattle.writing.specs.Writes.{body_size, page_count, part_of}
-use Rattle.writing.specs.Cuts.{parts_from, Holds, PagesHoldTheReport}
+use Rattle.writing.specs.Writes.{body_size, part_of}
+use Rattle.writing.specs.Cuts.{parts_from, PagesHoldTheReport}
 use Rattle.writing.proofs.Cutting.{end_last, start_below, full_page, length_part}
 
 -- two parts, one behind the other

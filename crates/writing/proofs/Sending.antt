@@ -1,7 +1,6 @@
 -- What the page writer answers once the report and its key are not refused.
-use Rattle.std.proofs.Common.{◌≡◌, ℕ, ◌+◌, ◌-◌, ◌*◌, ◌/◌, ◌<◌, ◌≤◌, ltb, leb, List, length, Ok, Err, Result, sym, refl, ap, ◌∙◌, subst, arith}
+use Rattle.std.proofs.Common.{◌≡◌, ℕ, ◌+◌, ◌-◌, ◌*◌, ◌/◌, ◌<◌, ◌≤◌, List, length, Ok, Err, sym, refl, ap, ◌∙◌, subst, arith}
 use Rattle.std.proofs.lemmas.Bool.{le-ltb, lt-ltb, lt-leb}
-use Rattle.packet.specs.declared.write.WriteFault.{WriteFault}
 use Rattle.packet.specs.declared.write.WriteFault.TheVariants.{NoRoom}
 use Rattle.paging.specs.Schemes.{Scheme, Laws}
 use Rattle.writing.specs.Writes.{body_size, written, report_sent}

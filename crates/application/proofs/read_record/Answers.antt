@@ -11,8 +11,8 @@ returns-then-front-size c =
     let at = c.args.at in
     let whole : is_whole body at ≡ true = grind (arith, nat_tests) in
     let known : state_count (kind_at body at) ≡ Some c.in-Some.count = sym c.in-Some.ensures in
-    let is = c.states-in-front-front.ensures ∙ ap (prefix_len is_state) (part_is body at (length_at body at)) in
-    state_above body at c.in-Some.count c.states-in-front-front.result whole known c.if-size-count.false is c.if-front-size.true
+    let is = c.states_in_front-front.ensures ∙ ap (prefix_len is_state) (part_is body at (length_at body at)) in
+    state_above body at c.in-Some.count c.states_in_front-front.result whole known c.if-size-count.false is c.if-front-size.true
 
 pub returns : goal.returns
 returns c =
@@ -20,8 +20,8 @@ returns c =
     let at = c.args.at in
     let whole : is_whole body at ≡ true = grind (arith, nat_tests) in
     let known : state_count (kind_at body at) ≡ Some c.in-Some.count = sym c.in-Some.ensures in
-    let is = c.states-in-front-front.ensures ∙ ap (prefix_len is_state) (part_is body at (length_at body at)) in (
-      states_lawful body at c.in-Some.count c.states-in-front-front.result whole known c.if-size-count.false is c.if-front-size.false,
+    let is = c.states_in_front-front.ensures ∙ ap (prefix_len is_state) (part_is body at (length_at body at)) in (
+      states_lawful body at c.in-Some.count c.states_in_front-front.result whole known c.if-size-count.false is c.if-front-size.false,
       c.named-2.ensures ∙ ap (record_named (kind_at body at) at) (part_is body at (length_at body at)),
       whole,
     )

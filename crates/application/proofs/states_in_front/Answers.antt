@@ -10,8 +10,8 @@ loop-at-preserved c =
     let step = prefix_len-drop_yes is_state c.args.bytes.now c.loop-at.at 0 c.loop-at-test.true yes in
     (omega arith, omega (arith, step))
 
-pub returns-else-bytes-at-le-LAST-STATE : goal.returns-else-bytes-at-le-LAST-STATE
-returns-else-bytes-at-le-LAST-STATE c =
+pub returns-else-bytes-at-le-LAST_STATE : goal.returns-else-bytes-at-le-LAST_STATE
+returns-else-bytes-at-le-LAST_STATE c =
     let no : is_state (get_or c.args.bytes.now c.loop-at.at 0) ≡ false = grind (arith, nat_tests) in
     let step = prefix_len-drop_no is_state c.args.bytes.now c.loop-at.at 0 c.loop-at-test.true no in
     omega (arith, step)

@@ -7,10 +7,10 @@ use Rattle.rows.proofs.Texts.{row_more, rows_all}
 use Rattle.rows.proofs.board_text.Goals as goal
 
 -- no fix stands at the next rank
-pub returns-in-default : goal.returns-in-default
-returns-in-default g c =
+pub returns-in_default : goal.returns-in_default
+returns-in_default g c =
     let board : List Fix = (state_of c.args.link.now).board in
-    let k = c.in-default.ensures in
+    let k = c.in_default.ensures in
     let none : length board ≤ c.loop-rank.rank - 1 = grind (arith, nat_tests) in
     rows_all board c.loop-rank.rank (string_bytes c.loop-rank.text) none c.loop-rank.invariant
 
@@ -21,7 +21,7 @@ loop-rank-preserved g c =
     let k = c.in-Ok.ensures in
     let within : rank ≤ length board = grind (arith, nat_tests) in
     let is : c.in-Ok.fix ≡ get_or board (rank - 1) no_fix = grind (arith, nat_tests) in
-    row_more board rank c.in-Ok.fix c.row-of.result (string_bytes c.loop-rank.text) (string_bytes c.add-row.new.text) c.loop-rank.auto.rank within is c.row-of.ensures c.in-ok-add-row.ensures c.loop-rank.invariant
+    row_more board rank c.in-Ok.fix c.row_of.result (string_bytes c.loop-rank.text) (string_bytes c.add_row.new.text) c.loop-rank.auto.rank within is c.row_of.ensures c.in_ok-add_row.ensures c.loop-rank.invariant
 
 -- the board has no more places
 pub returns : goal.returns

@@ -13,4 +13,4 @@ pub loop-text-smaller : goal.loop-text-smaller
 loop-text-smaller c =
     let room : 8064 ≤ length c.loop-text.buffer = omega arith in
     progress raw_data app_file reading fix_of enter (state_of c.loop-text.link) (drop c.loop-text.line.at c.loop-text.line.bytes.now) c.loop-text.buffer room _ c.pull-answer.ensures
-    (λ m i. c.in-default.not-Idle m (idle_only c.pull-answer.result m i))
+    (λ m i. c.in_default.not-Idle m (idle_only c.pull-answer.result m i))

@@ -14,8 +14,8 @@ pub returns-then-exponent-lt-THOUSANDTH : goal.returns-then-exponent-lt-THOUSAND
 returns-then-exponent-lt-THOUSANDTH c =
     sym (shown c.args.bits c.if-bits-ge-THOUSAND.false ∙ ap pos (tiny c.args.bits c.if-exponent-lt-THOUSANDTH.true))
 
-pub overflow-cast-result : goal.overflow-cast-result
-overflow-cast-result c = let s = small c.args.bits c.if-bits-ge-THOUSAND.false in search rules
+pub overflow_cast-result : goal.overflow_cast-result
+overflow_cast-result c = let s = small c.args.bits c.if-bits-ge-THOUSAND.false in search rules
 
 pub returns : goal.returns
 returns c =

@@ -4,5 +4,5 @@ use Rattle.packet.proofs.write.write.Goals as goal
 
 pub returns : goal.returns
 returns c =
-    let wrote : _ = all_written c.args.status c.args.kind c.checksum-sum.result c.args.data.now c.args.out.now c.copy-from-slice.new.self (omega arith) c.copy-from-slice.ensures.after in
+    let wrote : _ = all_written c.args.status c.args.kind c.checksum-sum.result c.args.data.now c.args.out.now c.copy_from_slice.new.self (omega arith) c.copy_from_slice.ensures.after in
     record { answer = search rules; bytes = search rules }

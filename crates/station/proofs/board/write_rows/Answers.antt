@@ -4,11 +4,11 @@ use Rattle.station.proofs.Rows.{look_found, none_there, row_more, rows_end}
 use Rattle.station.proofs.board.write_rows.Goals as goal
 
 -- no fix stands at the next rank
-pub returns-in-default : goal.returns-in-default
-returns-in-default c =
+pub returns-in_default : goal.returns-in_default
+returns-in_default c =
     let l = c.loop-count in
     let board = (state_of c.args.link.now).board in
-    let none : length board ≤ l.count = none_there board l.count _ (λ f e. c.in-default.not-Ok f e) c.look.ensures in
+    let none : length board ≤ l.count = none_there board l.count _ (λ f e. c.in_default.not-Ok f e) c.look.ensures in
     let count : l.count ≡ min (length board) (length c.args.rows.now) = omega (arith, none, l.invariant.0, l.invariant.1) in
     record { count = count; rows = rows_end board l.rows c.args.rows.now l.count count l.invariant.0 l.invariant.1 l.invariant.3 }
 

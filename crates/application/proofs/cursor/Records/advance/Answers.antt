@@ -1,4 +1,4 @@
-use Rattle.std.proofs.Common.{◌≡◌, ◌∷◌, sym, ap, ◌∙◌, arith}
+use Rattle.std.proofs.Common.{◌∷◌, sym, ap, ◌∙◌, arith}
 use Rattle.application.specs.declared.cursor.Records.{Records}
 use Rattle.application.specs.Cursors.{still}
 use Rattle.application.specs.Applications.{answer_read}

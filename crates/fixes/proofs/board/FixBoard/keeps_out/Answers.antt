@@ -1,4 +1,4 @@
-use Rattle.std.proofs.Common.{◌≡◌, ◌≤◌, length, sym, ap, ◌∙◌, arith, rules}
+use Rattle.std.proofs.Common.{◌≡◌, length, sym, ap, ◌∙◌, arith}
 use Rattle.std.proofs.lemmas.List.{get_or-take, length-take-le}
 use Rattle.fixes.specs.Ranking.{leads}
 use Rattle.fixes.specs.Views.{no_fix, board_of}
@@ -13,4 +13,4 @@ returns c h =
     let full : s.count ≡ 32 = omega arith in
     let size : length (board_of s) ≡ 32 = length-take-le s.count s.places (omega arith) ∙ full in
     let last = get_or-take s.count s.places 31 no_fix (omega arith) in
-    lost leads fix_order.trans fix no_fix 31 (board_of s) size s.order (ap (λ f. leads f fix) last ∙ sym c.no-later.ensures ∙ h)
+    lost leads fix_order.trans fix no_fix 31 (board_of s) size s.order (ap (λ f. leads f fix) last ∙ sym c.no_later.ensures ∙ h)

@@ -1,4 +1,4 @@
-use Rattle.std.proofs.Common.{◌≡◌, ◌+◌, ◌<◌, ◌≤◌, length, get_or, sym, refl, ap, ◌∙◌, arith}
+use Rattle.std.proofs.Common.{◌+◌, ◌≤◌, length, get_or, sym, ap, arith}
 use Rattle.held.specs.Views.{held_in}
 use Rattle.held.proofs.Rows.{length_held, held_at}
 use Rattle.held.proofs.Fills.{Filled, no_four, four}

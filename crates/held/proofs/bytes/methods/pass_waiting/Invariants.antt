@@ -6,7 +6,7 @@ abbrev pub invariant-loop-b : goal.invariant-loop-b
 invariant-loop-b g l =
     let now = g.L.Line.waiting l.line in
     let at_entry_lem = g.L.Line.waiting l.initial.line in
-    drop (passed l.in-step now) now ≡ drop (passed l.in-step at_entry_lem) at_entry_lem
+    drop (passed l.in_step now) now ≡ drop (passed l.in_step at_entry_lem) at_entry_lem
 
 abbrev pub decreases-loop-b : goal.decreases-loop-b
 decreases-loop-b g l = length (g.L.Line.waiting l.line)

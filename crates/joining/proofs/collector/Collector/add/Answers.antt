@@ -6,6 +6,6 @@ pub returns-in-Ok : goal.returns-in-Ok
 returns-in-Ok g c =
     let a = c.in-Ok in
     record {
-      page = taken_in g.S.Scheme.model c.args.data.now a.key a.page a.total c.header-size.result (held_of c.args.self.now) _ c.header-size.ensures a.ensures c.place.ensures.page;
+      page = taken_in g.S.Scheme.model c.args.data.now a.key a.page a.total c.header_size.result (held_of c.args.self.now) _ c.header_size.ensures a.ensures c.place.ensures.page;
       refused = c.place.ensures.refused;
     }

@@ -1,4 +1,4 @@
-use Rattle.std.proofs.Common.{◌≡◌, ◌+◌, ◌≤◌, length, take, sym, ◌∙◌, arith, rules}
+use Rattle.std.proofs.Common.{◌≤◌, length, arith, rules}
 use Rattle.std.proofs.lemmas.Slice.{overwrites}
 use Rattle.joining.proofs.Stores.{no_room, room}
 use Rattle.joining.proofs.store.Store.add.Goals as goal

@@ -18,8 +18,8 @@ returns g c =
     let lb = g.met.B.Scheme.lawful in
     record {
       made = search rules;
-      report-survives-zeros = survives a b la lb reading fix_of enter;
-      pages-stand-whole = stands_whole a b la lb reading fix_of enter;
-      board-holds-the-best = board_best a b reading fix_of leads fix_order;
-      room-never-refuses = never_refuses a b la lb reading fix_of enter;
+      report_survives_zeros = survives a b la lb reading fix_of enter;
+      pages_stand_whole = stands_whole a b la lb reading fix_of enter;
+      board_holds_the_best = board_best a b reading fix_of leads fix_order;
+      room_never_refuses = never_refuses a b la lb reading fix_of enter;
     }

@@ -1,15 +1,15 @@
-use Rattle.std.proofs.Common.{◌≡◌, ◌≤◌, length, Some, sym, refl, ap, ◌∙◌, arith}
+use Rattle.std.proofs.Common.{Some, sym, ap, ◌∙◌, arith}
 use Rattle.reading.specs.Readings.{reading}
 use Rattle.link.specs.Fixing.{fix_of}
-use Rattle.fixes.specs.Views.{enter, board_of}
+use Rattle.fixes.specs.Views.{enter}
 use Rattle.held.specs.Views.{held_in}
-use Rattle.link.specs.Views.{state_of, answer_of}
+use Rattle.link.specs.Views.{state_of}
 use Rattle.link.proofs.Shifts.{pulled_none, pulled_start, pulled_sign}
 use Rattle.link.proofs.link.Link.pull.Goals as goal
 
-pub returns-in-default : goal.returns-in-default
-returns-in-default g c =
-    let f = c.in-default.ensures in
+pub returns-in_default : goal.returns-in_default
+returns-in_default g c =
+    let f = c.in_default.ensures in
     pulled_none g.A.Scheme.model g.B.Scheme.model reading fix_of enter (state_of c.args.self.now) (g.L.Line.waiting c.args.line.now) c.args.buffer.now
     (held_in c.find.new.self) (g.L.Line.waiting c.find.new.line) f.held f.waiting (omega arith) f.answer
 

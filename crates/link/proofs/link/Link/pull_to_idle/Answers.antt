@@ -1,4 +1,4 @@
-use Rattle.std.proofs.Common.{◌≡◌, ◌≤◌, length, refl, ap, arith}
+use Rattle.std.proofs.Common.{◌≤◌, length, refl, ap, arith}
 use Rattle.reading.specs.Readings.{reading}
 use Rattle.fixes.specs.Views.{enter}
 use Rattle.link.specs.Fixing.{fix_of}
@@ -16,14 +16,14 @@ loop-held-preserved g c = (
   λ end n t.
       c.loop-held.invariant.1 end n
       (went_on g.A.Scheme.model g.B.Scheme.model reading fix_of enter (state_of c.loop-held.self) (g.L.Line.waiting c.loop-held.line) c.loop-held.buffer c.loop-held.invariant.0 _ c.pull.ensures end n
-      (λ m i. c.in-default.not-Idle m (idle_only c.pull.result m i)) t),
+      (λ m i. c.in_default.not-Idle m (idle_only c.pull.result m i)) t),
 )
 
 pub loop-held-smaller : goal.loop-held-smaller
 loop-held-smaller g c =
     let room : 8064 ≤ length c.loop-held.buffer = omega arith in
     progress g.A.Scheme.model g.B.Scheme.model reading fix_of enter (state_of c.loop-held.self) (g.L.Line.waiting c.loop-held.line) c.loop-held.buffer room _ c.pull.ensures
-    (λ m i. c.in-default.not-Idle m (idle_only c.pull.result m i))
+    (λ m i. c.in_default.not-Idle m (idle_only c.pull.result m i))
 
 pub returns-in-Idle : goal.returns-in-Idle
 returns-in-Idle g c =

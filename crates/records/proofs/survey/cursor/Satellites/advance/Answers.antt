@@ -1,4 +1,4 @@
-use Rattle.std.proofs.Common.{◌≡◌, ◌+◌, ◌∷◌, sym, refl, ap, ◌∙◌, subst}
+use Rattle.std.proofs.Common.{◌+◌, ◌∷◌, sym, ap, ◌∙◌, subst}
 use Rattle.records.specs.declared.survey.cursor.Satellites.{Satellites}
 use Rattle.records.specs.SurveyCursors.{still}
 use Rattle.records.specs.Surveys.{answer_read, PartsWhole}
@@ -14,7 +14,7 @@ returns c =
       | in-Ok w ↦ (
         went_on old new w.in-Ok.s c.if-self-eq0.false w.in-Ok.ensures (ap (λ (s : Satellites). s.body.now) w.self-is)
             (ap (λ (s : Satellites). s.enhanced) w.self-is) (ap (λ (s : Satellites). s.left) w.self-is)
-            (ap (λ (s : Satellites). s.at) w.self-is ∙ ap (λ n. old.at + n) w.satellite-size.ensures)
+            (ap (λ (s : Satellites). s.at) w.self-is ∙ ap (λ n. old.at + n) w.satellite_size.ensures)
             ∙ ap (λ r. answer_read r ∷ still new) (sym w.in-Ok.is),
         subst (λ r. PartsWhole (answer_read r)) (sym w.in-Ok.is) (parts_whole old.enhanced old.body.now old.at w.in-Ok.s w.in-Ok.ensures),
       )
