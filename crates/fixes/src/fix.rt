@@ -1,5 +1,5 @@
 // A fix, and the order of fixes.
-ghost use Rattle.fixes.specs.Ranking.{leads as fixLeads};
+ghost use Rattle.fixes.specs.Ranking.{leads as fix_leads};
 ghost use Rattle.std.proofs.Common.{rules};
 
 use crate::double::rank_key;
@@ -15,7 +15,7 @@ pub struct Fix {
 }
 
 impl Ranked for Fix {
-    ghost leads = { fixLeads };
+    ghost leads = { fix_leads };
 
     ghost total = { Prim.search rules };
 

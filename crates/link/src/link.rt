@@ -1,6 +1,6 @@
 // The link itself.
 ghost use Rattle.std.specs.Prelude.{◌≡◌, ℕ, ◌≤◌, [], length};
-ghost use Rattle.reading.specs.Readings.{reading as readingBy};
+ghost use Rattle.reading.specs.Readings.{reading as reading_by};
 ghost use Rattle.fixes.specs.Views.{enter, board_of};
 ghost use Rattle.fixes.specs.Ranking.{leads};
 ghost use Rattle.protocol.specs.Promises.{ReportSurvivesZeros, PagesStandWhole, BoardHoldsTheBest, RoomNeverRefuses};
@@ -42,10 +42,10 @@ impl<A: Scheme, B: Scheme> Link<A, B> {
     // best of the positions delivered and read; no page is refused for want of room.
     pub fn new() -> Link<A, B>
         ensures made { state_of result ≡ fresh }
-        ensures report_survives_zeros { ReportSurvivesZeros A.Scheme.model B.Scheme.model readingBy fix_of enter }
-        ensures pages_stand_whole { PagesStandWhole A.Scheme.model B.Scheme.model readingBy fix_of enter }
-        ensures board_holds_the_best { BoardHoldsTheBest A.Scheme.model B.Scheme.model readingBy fix_of leads }
-        ensures room_never_refuses { RoomNeverRefuses A.Scheme.model B.Scheme.model readingBy fix_of enter }
+        ensures report_survives_zeros { ReportSurvivesZeros A.Scheme.model B.Scheme.model reading_by fix_of enter }
+        ensures pages_stand_whole { PagesStandWhole A.Scheme.model B.Scheme.model reading_by fix_of enter }
+        ensures board_holds_the_best { BoardHoldsTheBest A.Scheme.model B.Scheme.model reading_by fix_of leads }
+        ensures room_never_refuses { RoomNeverRefuses A.Scheme.model B.Scheme.model reading_by fix_of enter }
     {
         Link {
             held: HeldBytes::new(),
@@ -59,7 +59,7 @@ impl<A: Scheme, B: Scheme> Link<A, B> {
     // Takes bytes until there is something to answer, and no more than the answer needs. A report, or the
     // data of a packet that no scheme claims, comes to the start of the buffer.
     pub fn pull<L: Line>(&mut self, line: &mut L, buffer: &mut [u8]) -> Answer
-        ensures { record { answer = answer_of result; state = state_of self.new; waiting = L.Line.waiting line.new; buffer = buffer.new } ≡ pulled A.Scheme.model B.Scheme.model readingBy fix_of enter (state_of self.old) (L.Line.waiting line.old) buffer.old }
+        ensures { record { answer = answer_of result; state = state_of self.new; waiting = L.Line.waiting line.new; buffer = buffer.new } ≡ pulled A.Scheme.model B.Scheme.model reading_by fix_of enter (state_of self.old) (L.Line.waiting line.old) buffer.old }
     {
         if buffer.len() < REPORT {
             return Answer::Refused(LinkFault::Buffer(buffer.len()));
@@ -76,7 +76,7 @@ impl<A: Scheme, B: Scheme> Link<A, B> {
 
     // Pulls until nothing more can be answered, and answers how many bytes are then held.
     pub fn pull_to_idle<L: Line>(&mut self, line: &mut L) -> usize
-        ensures run { EndsIdle (pull A.Scheme.model B.Scheme.model readingBy fix_of enter) (state_of self.old) (L.Line.waiting line.old) (state_of self.new) result }
+        ensures run { EndsIdle (pull A.Scheme.model B.Scheme.model reading_by fix_of enter) (state_of self.old) (L.Line.waiting line.old) (state_of self.new) result }
         ensures waiting { L.Line.waiting line.new ≡ [] }
     {
         let mut buffer = [0; REPORT];
@@ -110,7 +110,7 @@ impl<A: Scheme, B: Scheme> Link<A, B> {
     // The packet that the stream begins with.
     fn open<L: Line>(&mut self, line: &mut L, buffer: &mut [u8]) -> Answer
         requires { 8064 ≤ length buffer.old }
-        ensures { record { answer = answer_of result; state = state_of self.new; waiting = L.Line.waiting line.new; buffer = buffer.new } ≡ opened A.Scheme.model B.Scheme.model readingBy fix_of enter (state_of self.old) (L.Line.waiting line.old) buffer.old }
+        ensures { record { answer = answer_of result; state = state_of self.new; waiting = L.Line.waiting line.new; buffer = buffer.new } ≡ opened A.Scheme.model B.Scheme.model reading_by fix_of enter (state_of self.old) (L.Line.waiting line.old) buffer.old }
     {
         let Link {
             held,

@@ -1,6 +1,6 @@
 // A lawful packet on its way: to its scheme's collector, to the buffer, to the board.
 ghost use Rattle.std.specs.Prelude.{◌≡◌, ℕ, ◌≤◌, length};
-ghost use Rattle.reading.specs.Readings.{reading as readingBy};
+ghost use Rattle.reading.specs.Readings.{reading as reading_by};
 ghost use Rattle.fixes.specs.Views.{board_of, enter};
 ghost use Rattle.joining.specs.Views.{held_of};
 ghost use Rattle.protocol.specs.Pulls.{put, board_with};
@@ -29,8 +29,8 @@ fn copy(body: &[u8], buffer: &mut [u8])
 
 // Reads a report, and puts a position that reads on the board.
 fn deliver(kind: Kind, key: u32, body: &[u8], board: &mut FixBoard) -> Result<(), LinkFault>
-    ensures answer { reading_in result ≡ readingBy kind key body.now }
-    ensures board { board_of board.new ≡ board_with readingBy fix_of enter kind key body.now (board_of board.old) }
+    ensures answer { reading_in result ≡ reading_by kind key body.now }
+    ensures board { board_of board.new ≡ board_with reading_by fix_of enter kind key body.now (board_of board.old) }
 {
     if let Kind::Position = kind {
         let fields = position::read(body)?;
@@ -54,7 +54,7 @@ fn join<S: Scheme>(
     buffer: &mut [u8],
 ) -> Answer
     requires { 8064 ≤ length buffer.old }
-    ensures { record { answer = answer_of result; held = held_of to.new; board = board_of board.new; buffer = buffer.new } ≡ joint readingBy fix_of enter S.Scheme.model «data».now (held_of to.old) (board_of board.old) buffer.old }
+    ensures { record { answer = answer_of result; held = held_of to.new; board = board_of board.new; buffer = buffer.new } ≡ joint reading_by fix_of enter S.Scheme.model «data».now (held_of to.old) (board_of board.old) buffer.old }
 {
     match to.add(data) {
         Ok(Step::More(number, total)) => Answer::Page {
@@ -87,7 +87,7 @@ pub(crate) fn send<A: Scheme, B: Scheme>(
 ) -> Answer
     requires room { 8064 ≤ length buffer.old }
     requires short { length packet.data.now ≤ 255 }
-    ensures { record { answer = answer_of result; first = held_of first.new; second = held_of second.new; board = board_of board.new; buffer = buffer.new } ≡ route A.Scheme.model B.Scheme.model readingBy fix_of enter (held_of first.old) (held_of second.old) (board_of board.old) (record { status = packet.entry.status; type = packet.entry.kind; content = packet.entry.data.now }) buffer.old }
+    ensures { record { answer = answer_of result; first = held_of first.new; second = held_of second.new; board = board_of board.new; buffer = buffer.new } ≡ route A.Scheme.model B.Scheme.model reading_by fix_of enter (held_of first.old) (held_of second.old) (board_of board.old) (record { status = packet.entry.status; type = packet.entry.kind; content = packet.entry.data.now }) buffer.old }
 {
     if packet.kind == A::packet_type() {
         return join(first, board, packet.data, buffer);

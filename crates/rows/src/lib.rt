@@ -81,8 +81,8 @@ fn add_row(text: &mut String, row: Row) -> Result<(), AllocError>
     text.write("\n")
 }
 
-// Adds a column with what a value prints. No contract speaks of a format's width, so the text is made first
-// and then measured.
+// Adds a column with what a value prints. The text is made first and then measured, so that the contract can
+// name every byte.
 fn add_number<D: fmt::Display + Drop>(
     text: &mut String,
     width: usize,

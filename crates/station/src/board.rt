@@ -23,8 +23,7 @@ pub struct StationFix {
 
 // Pulls a new link to idle over the capture and puts the best fixes, the best one first, into the rows, as
 // many as there are and as fit. Answers how many; the other rows are as before.
-#[unsafe(no_mangle)]
-pub extern "C" fn station_board(capture: &[u8], rows: &mut [StationFix]) -> usize
+pub fn station_board(capture: &[u8], rows: &mut [StationFix]) -> usize
     ensures { (board : List Fixed) × BoardOf capture.now board × (result ≡ min (length board) (length rows.old)) × (rows.new ≡ rows_of board rows.old) }
 {
     let mut line = Capture::new(capture);
@@ -34,8 +33,7 @@ pub extern "C" fn station_board(capture: &[u8], rows: &mut [StationFix]) -> usiz
 }
 
 // The same through the read-ahead.
-#[unsafe(no_mangle)]
-pub extern "C" fn station_board_ahead(capture: &[u8], rows: &mut [StationFix]) -> usize
+pub fn station_board_ahead(capture: &[u8], rows: &mut [StationFix]) -> usize
     ensures { (board : List Fixed) × BoardOf capture.now board × (result ≡ min (length board) (length rows.old)) × (rows.new ≡ rows_of board rows.old) }
 {
     let mut line = ReadAhead::new(Capture::new(capture));

@@ -1,9 +1,5 @@
-// The link for programs in other languages: functions that C can call, each over a capture in the
-// caller's memory. `bench/station.h` is their C header.
-//
-// A function here asks of its caller what C cannot say: every pointer is aligned and not null, also
-// where the length beside it is 0, and points to as many elements as that length says, all of them
-// written before; and no memory that is written is reached by another pointer.
+// The board of a whole capture in the caller's memory, in one call: what a program in another language asks
+// for. The crate `station_c` exports these functions to C.
 #![tactic(auto)]
 
 mod board;

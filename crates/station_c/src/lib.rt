@@ -1,0 +1,30 @@
+// The functions of `station` for programs in other languages: functions that C can call, each over a capture
+// in the caller's memory. `bench/station.h` is their C header.
+//
+// A function here asks of its caller what C cannot say: every pointer is aligned and not null, also
+// where the length beside it is 0, and points to as many elements as that length says, all of them
+// written before; and no memory that is written is reached by another pointer.
+#![tactic(auto)]
+
+ghost use Rattle.std.specs.Prelude.{◌≡◌, min, List, length};
+ghost use Rattle.fixes.specs.declared.fix.Fix.{Fix as Fixed};
+ghost use Rattle.station.specs.Boards.{BoardOf, rows_of};
+
+use station::StationFix;
+
+// Pulls a new link to idle over the capture and puts the best fixes, the best one first, into the rows, as
+// many as there are and as fit. Answers how many; the other rows are as before.
+#[unsafe(no_mangle)]
+pub extern "C" fn station_board(capture: &[u8], rows: &mut [StationFix]) -> usize
+    ensures { (board : List Fixed) × BoardOf capture.now board × (result ≡ min (length board) (length rows.old)) × (rows.new ≡ rows_of board rows.old) }
+{
+    station::station_board(capture, rows)
+}
+
+// The same through the read-ahead.
+#[unsafe(no_mangle)]
+pub extern "C" fn station_board_ahead(capture: &[u8], rows: &mut [StationFix]) -> usize
+    ensures { (board : List Fixed) × BoardOf capture.now board × (result ≡ min (length board) (length rows.old)) × (rows.new ≡ rows_of board rows.old) }
+{
+    station::station_board_ahead(capture, rows)
+}
