@@ -1,4 +1,5 @@
-/* The station link for C: functions over a capture in the caller's memory, from libstation.a.
+/* The station link for C: functions over a capture in the caller's memory, from libstation.a (which
+ * bench/run makes of the crate station_c).
  *
  * Each function asks of its caller:
  * - every pointer is aligned and not null, also where the length beside it is 0;
