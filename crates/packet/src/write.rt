@@ -13,18 +13,18 @@ const END: u8 = 3;
 
 // Why nothing is written: too much data (its length), no room (the size needed), or a report's key at or
 // above the limit of its scheme.
-#[derive(Clone, Copy)]
+#[derive(Clone, Copy, Debug, PartialEq, Eq)]
 pub enum WriteFault {
     TooLong(usize),
     NoRoom(usize),
     KeyTooGreat,
 }
 
-impl WriteFault {
-    pub fn refusal(self) -> Refusal
-        ensures { result ≡ write_refusal self }
-    {
-        let (number, place) = match self {
+impl From<WriteFault> for Refusal {
+    ghost from_gives = { λ e r. r ≡ write_refusal e };
+
+    fn from(e: WriteFault) -> Refusal {
+        let (number, place) = match e {
             WriteFault::TooLong(size) => (2, size),
             WriteFault::NoRoom(size) => (3, size),
             WriteFault::KeyTooGreat => (15, 0),
