@@ -1,7 +1,7 @@
 // What a pull answers.
 use crate::fault::LinkFault;
 
-#[derive(Clone, Copy)]
+#[derive(Clone, Copy, Debug, PartialEq, Eq)]
 pub enum Answer {
     // Nothing more can be answered; so many bytes are held.
     Idle {

@@ -9,7 +9,7 @@ use records::fault::RecordFault;
 use refusal::Refusal;
 
 // A buffer shorter than the longest report, by its length; a rank where no fix stands.
-#[derive(Clone, Copy)]
+#[derive(Clone, Copy, Debug, PartialEq, Eq)]
 pub enum LinkFault {
     Buffer(usize),
     Packet(PacketFault),
@@ -42,42 +42,42 @@ impl From<RecordFault> for LinkFault {
     }
 }
 
-impl LinkFault {
-    pub fn refusal(self) -> Refusal
-        ensures { result ≡ link_refusal self }
-    {
-        match self {
-            LinkFault::Buffer(place) => Refusal {
-                number: 1,
-                layer: 0,
-                place,
-            },
-            LinkFault::Packet(fault) => fault.refusal(),
-            LinkFault::Page(fault) => fault.refusal(),
-            LinkFault::Record(fault) => fault.refusal(),
-            LinkFault::Rank(place) => Refusal {
-                number: 22,
-                layer: 0,
-                place,
-            },
+// A packet's, a page's and a record's fault keep their numbers and places.
+impl From<LinkFault> for Refusal {
+    ghost from_gives = { λ e r. r ≡ link_refusal e };
+
+    fn from(e: LinkFault) -> Refusal {
+        let (number, place) = match e {
+            LinkFault::Packet(fault) => return fault.into(),
+            LinkFault::Page(fault) => return fault.into(),
+            LinkFault::Record(fault) => return fault.into(),
+            LinkFault::Buffer(place) => (1, place),
+            LinkFault::Rank(place) => (22, place),
+        };
+        Refusal {
+            number,
+            layer: 0,
+            place,
         }
     }
+}
 
+impl LinkFault {
     pub fn number(self) -> u8
         ensures { result ≡ (link_refusal self).number }
     {
-        self.refusal().number
+        Refusal::from(self).number
     }
 
     pub fn layer(self) -> u8
         ensures { result ≡ (link_refusal self).layer }
     {
-        self.refusal().layer
+        Refusal::from(self).layer
     }
 
     pub fn place(self) -> usize
         ensures { result ≡ (link_refusal self).place }
     {
-        self.refusal().place
+        Refusal::from(self).place
     }
 }

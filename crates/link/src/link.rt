@@ -19,7 +19,7 @@ use fixes::{Fix, FixBoard};
 use held::HeldBytes;
 use joining::collector::Collector;
 use line::Line;
-use packet::read::{Start, read};
+use packet::read::read;
 use paging::scheme::Scheme;
 
 // The length of the longest report.
@@ -120,14 +120,16 @@ impl<A: Scheme, B: Scheme> Link<A, B> {
             board,
         } = self;
         held.gather(line);
-        match read(held.all()) {
-            Start::Short => Answer::Idle { held: held.len() },
-            Start::Broken(fault) => {
+        let Some(found) = read(held.all()) else {
+            return Answer::Idle { held: held.len() };
+        };
+        match found {
+            Err(fault) => {
                 held.pass(1);
                 *in_step = false;
-                Answer::Refused(LinkFault::from(fault))
+                Answer::Refused(fault.into())
             }
-            Start::Lawful(packet) => {
+            Ok(packet) => {
                 let size = packet.data.len() + 6;
                 let answer = send(first, second, board, packet, buffer);
                 held.pass(size);

@@ -28,11 +28,16 @@ fn copy(body: &[u8], buffer: &mut [u8])
 }
 
 // Reads a report, and puts a position that reads on the board.
-fn deliver(kind: Kind, key: u32, body: &[u8], board: &mut FixBoard) -> Result<(), LinkFault>
+fn deliver(
+    kind: Option<Kind>,
+    key: u32,
+    body: &[u8],
+    board: &mut FixBoard,
+) -> Result<(), LinkFault>
     ensures answer { reading_in result ≡ reading_by kind key body.now }
     ensures board { board_of board.new ≡ board_with reading_by fix_of enter kind key body.now (board_of board.old) }
 {
-    if let Kind::Position = kind {
+    if kind == Some(Kind::Position) {
         let fields = position::read(body)?;
         board.insert(Fix {
             key,
@@ -73,7 +78,7 @@ fn join<S: Scheme>(
                 reading,
             }
         }
-        Err(fault) => Answer::Refused(LinkFault::from(fault)),
+        Err(fault) => Answer::Refused(fault.into()),
     }
 }
 

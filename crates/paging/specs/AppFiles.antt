@@ -1,5 +1,5 @@
 -- The scheme of application files: block number, page index from 0, greatest page index.
-use Rattle.std.specs.Prelude.{ℕ, ◌+◌, ◌-◌, cond, ◌&&◌, [], ◌∷◌, length, nat_le, nat_lt, slice_index}
+use Rattle.std.specs.Prelude.{ℕ, ◌+◌, ◌-◌, cond, ◌&&◌, [], ◌∷◌, length, Some, nat_le, nat_lt, slice_index}
 use Rattle.records.specs.declared.kind.Kind.TheVariants.{Application}
 use Rattle.paging.specs.Schemes.{Scheme, Head, reads, too_short, unfit}
 
@@ -16,5 +16,5 @@ app_file = record {
   place = 2;
   read = λ d. cond (nat_lt (length d) 3) too_short (indexed (slice_index d 0) (slice_index d 1) (slice_index d 2));
   write = λ h. h.key ∷ (h.page - 1) ∷ (h.total - 1) ∷ [];
-  means = λ k. Application;
+  means = λ k. Some Application;
 }

@@ -1,6 +1,6 @@
 -- The scheme of RAWDATA: record type, paging byte, reply number, interpretation flags.
-use Rattle.std.specs.Prelude.{ℕ, ◌+◌, ◌*◌, ◌/◌, ◌%◌, cond, ◌&&◌, [], ◌∷◌, length, ◌==◌, nat_le, nat_lt, slice_index}
-use Rattle.records.specs.declared.kind.Kind.TheVariants.{Position, Survey, None}
+use Rattle.std.specs.Prelude.{ℕ, ◌+◌, ◌*◌, ◌/◌, ◌%◌, cond, ◌&&◌, [], ◌∷◌, length, Some, None, ◌==◌, nat_le, nat_lt, slice_index}
+use Rattle.records.specs.declared.kind.Kind.TheVariants.{Position, Survey}
 use Rattle.paging.specs.Schemes.{Scheme, Head, reads, too_short, unfit}
 
 -- the page runs from 1 to the total
@@ -17,5 +17,5 @@ raw_data = record {
   place = 1;
   read = λ d. cond (nat_lt (length d) 4) too_short (paged (slice_index d 0 * 65536 + slice_index d 2 * 256 + slice_index d 3) (slice_index d 1 / 16) (slice_index d 1 % 16));
   write = λ h. (h.key / 65536) ∷ (h.page * 16 + h.total) ∷ (h.key / 256 % 256) ∷ (h.key % 256) ∷ [];
-  means = λ k. cond (k / 65536 == 1) Position (cond (k / 65536 == 0 && k % 2 == 1) Survey None);
+  means = λ k. cond (k / 65536 == 1) (Some Position) (cond (k / 65536 == 0 && k % 2 == 1) (Some Survey) None);
 }

@@ -1,5 +1,5 @@
 -- A page scheme, and what it must show.
-use Rattle.std.specs.Prelude.{◌≡◌, ℕ, ◌-◌, ◌*◌, ◌<◌, ◌≤◌, List, ◌++◌, length, take}
+use Rattle.std.specs.Prelude.{◌≡◌, ℕ, ◌-◌, ◌*◌, ◌<◌, ◌≤◌, List, ◌++◌, length, take, Option}
 use Rattle.packet.specs.Bytes.{AreBytes}
 use Rattle.records.specs.declared.kind.Kind.{Kind}
 
@@ -15,7 +15,7 @@ pub data Head : Type 0 where
   too_short : Head
   unfit : Head
 
--- the packet type that it claims, the size of a header, its greatest page count, the limit of its keys, the place of an unfit header, how headers are read and written, and the kind of report that a key means
+-- the packet type that it claims, the size of a header, its greatest page count, the limit of its keys, the place of an unfit header, how headers are read and written, and the kind of report that a key means, if it means one
 pub record Scheme : Type 0 where
   pub type : ℕ
   pub header : ℕ
@@ -24,7 +24,7 @@ pub record Scheme : Type 0 where
   pub place : ℕ
   pub read : List ℕ → Head
   pub write : Header → List ℕ
-  pub means : ℕ → Kind
+  pub means : ℕ → Option Kind
 
 -- the header's numbers are within the scheme's limits
 abbrev pub Within : Scheme → Header → Type 0

@@ -63,7 +63,7 @@ impl Scheme for AppFile {
         true
     }
 
-    fn means(_key: u32) -> Kind {
-        Kind::Application
+    fn means(_key: u32) -> Option<Kind> {
+        Some(Kind::Application)
     }
 }

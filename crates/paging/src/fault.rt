@@ -5,31 +5,26 @@ ghost use Rattle.paging.specs.Headers.{page_refusal};
 use refusal::Refusal;
 
 // Each fault with its place: the data's length, a place in the header, the page's number.
-#[derive(Clone, Copy)]
+#[derive(Clone, Copy, Debug, PartialEq, Eq)]
 pub enum PageFault {
     Short(usize),
     Unfit(usize),
     OutOfTurn(usize),
 }
 
-fn at(number: u8, place: usize) -> Refusal
-    ensures { result ≡ record { number = number; layer = 2; place = place } }
-{
-    Refusal {
-        number,
-        layer: 2,
-        place,
-    }
-}
+impl From<PageFault> for Refusal {
+    ghost from_gives = { λ e r. r ≡ page_refusal e };
 
-impl PageFault {
-    pub fn refusal(self) -> Refusal
-        ensures { result ≡ page_refusal self }
-    {
-        match self {
-            PageFault::Short(place) => at(6, place),
-            PageFault::Unfit(place) => at(7, place),
-            PageFault::OutOfTurn(place) => at(21, place),
+    fn from(e: PageFault) -> Refusal {
+        let (number, place) = match e {
+            PageFault::Short(place) => (6, place),
+            PageFault::Unfit(place) => (7, place),
+            PageFault::OutOfTurn(place) => (21, place),
+        };
+        Refusal {
+            number,
+            layer: 2,
+            place,
         }
     }
 }

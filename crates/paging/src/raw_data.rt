@@ -65,14 +65,11 @@ impl Scheme for RawData {
         true
     }
 
-    fn means(key: u32) -> Kind {
-        let record = key / 65536;
-        if record == 1 {
-            return Kind::Position;
+    fn means(key: u32) -> Option<Kind> {
+        match key / 65536 {
+            0 if key % 2 == 1 => Some(Kind::Survey),
+            1 => Some(Kind::Position),
+            _ => None,
         }
-        if record == 0 && key % 2 == 1 {
-            return Kind::Survey;
-        }
-        Kind::None
     }
 }

@@ -42,8 +42,8 @@ pub trait Scheme {
         ensures answer { result ≡ header_fits model (record { key = key; page = page; total = total }) (length out.old) }
         ensures bytes { out.new ≡ headed model (record { key = key; page = page; total = total }) out.old };
 
-    // The kind of report that a key means.
-    fn means(key: u32) -> Kind
+    // The kind of report that a key means, if it means one.
+    fn means(key: u32) -> Option<Kind>
         ensures { result ≡ model.means key };
 
     ghost lawful: { Laws model };

@@ -1,10 +1,11 @@
 -- The board of a link is the fold of the fixes delivered.
 use Rattle.std.proofs.Common.{◌≡◌, ℕ, Bool, true, false, cond, eqb, ltb, List, [], ◌∷◌, ◌++◌, fold, sym, refl, ap, ◌∙◌, subst, append_assoc}
+use Rattle.std.specs.Prelude.{Some, None, Option}
 use Rattle.std.proofs.lemmas.List.{append-nil}
 use Rattle.std.proofs.lemmas.Bool.{cond-true, cond-false, eqb-true, eqb-false, eq-eqb, ne_eqb}
 use Rattle.packet.specs.Packets.{Packet}
 use Rattle.records.specs.declared.kind.Kind.{Kind}
-use Rattle.records.specs.declared.kind.Kind.TheVariants.{Position, Survey, Application, None}
+use Rattle.records.specs.declared.kind.Kind.TheVariants.{Position, Survey, Application}
 use Rattle.paging.specs.Schemes.{Scheme}
 use Rattle.fixes.specs.declared.fix.Fix.{Fix}
 use Rattle.joining.specs.Joining.{Joined, collected, more, whole, refuses}
@@ -46,14 +47,14 @@ module _ (a b : Scheme) (reading : Reading) (fix_of : Fixing) (enter : Entering)
   either_enters false board p q x y = y refl
 
   -- one report of a kind
-  entered_once : (k : Kind) (key : ℕ) (body : List ℕ) (board : List Fix) → board_with reading fix_of enter k key body board ≡ after_all board (fix_if_read reading fix_of k key body)
-  entered_once Position key body board = go (eqb (reading Position key body).number 0)
+  entered_once : (k : Option Kind) (key : ℕ) (body : List ℕ) (board : List Fix) → board_with reading fix_of enter k key body board ≡ after_all board (fix_if_read reading fix_of k key body)
+  entered_once (Some Position) key body board = go (eqb (reading (Some Position) key body).number 0)
     where
       go : (v : Bool) → cond v (enter (fix_of key body) board) board ≡ after_all board (cond v (fix_of key body ∷ []) [])
       go true = refl
       go false = refl
-  entered_once Survey key body board = refl
-  entered_once Application key body board = refl
+  entered_once (Some Survey) key body board = refl
+  entered_once (Some Application) key body board = refl
   entered_once None key body board = refl
 
   -- the answers of a scheme, whose keys are meant as its own

@@ -1,5 +1,5 @@
 -- A link by what it holds, what a pull can answer, and what a look answers.
-use Rattle.std.specs.Prelude.{ℕ, ◌-◌, Bool, true, cond, ◌&&◌, List, [], length, Ok, Err, Result, nat_le, slice_index_or}
+use Rattle.std.specs.Prelude.{ℕ, ◌-◌, Bool, true, cond, ◌&&◌, List, [], length, Ok, Err, Option, Result, nat_le, slice_index_or}
 use Rattle.refusal.specs.declared.Refusal.{Refusal}
 use Rattle.records.specs.declared.kind.Kind.{Kind}
 use Rattle.fixes.specs.declared.fix.Fix.{Fix}
@@ -17,7 +17,7 @@ pub data Answer : Type 0 where
 
 -- how a report of a kind, with its key and body, is read: number 0 if it reads
 abbrev pub Reading : Type 0
-Reading = Kind → ℕ → List ℕ → Refusal
+Reading = Option Kind → ℕ → List ℕ → Refusal
 
 -- the fix of a position, from its key and body
 abbrev pub Fixing : Type 0

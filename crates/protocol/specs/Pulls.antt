@@ -1,10 +1,10 @@
 -- One pull: what the stream begins with, and what comes of it.
-use Rattle.std.specs.Prelude.{ℕ, ◌+◌, ◌-◌, max, Bool, true, false, cond, ◌&&◌, ◌||◌, List, [], ◌∷◌, ◌++◌, length, take, drop, ◌==◌, nat_lt, slice_index}
+use Rattle.std.specs.Prelude.{ℕ, ◌+◌, ◌-◌, max, Bool, true, false, cond, ◌&&◌, ◌||◌, List, [], ◌∷◌, ◌++◌, length, take, drop, Some, None, Option, ◌==◌, nat_lt, slice_index}
 use Rattle.packet.specs.Packets.{Packet, Front, short, no_end, bad_sum, lawful, front, claimed}
 use Rattle.packet.specs.declared.read.PacketFault.TheVariants.{NoEnd, WrongSum}
 use Rattle.packet.specs.Reads.{packet_refusal}
 use Rattle.records.specs.declared.kind.Kind.{Kind}
-use Rattle.records.specs.declared.kind.Kind.TheVariants.{Position, Survey, Application, None}
+use Rattle.records.specs.declared.kind.Kind.TheVariants.{Position, Survey, Application}
 use Rattle.paging.specs.Schemes.{Scheme}
 use Rattle.refusal.specs.declared.Refusal.{Refusal}
 use Rattle.fixes.specs.declared.fix.Fix.{Fix}
@@ -76,10 +76,10 @@ paged reading s j taken after = record { answer = answer_to reading s j; written
 
 module _ (reading : Reading) (fix_of : Fixing) (enter : Entering) where
   -- the board after a report: a position that was read enters it
-  abbrev pub board_with : Kind → ℕ → List ℕ → List Fix → List Fix
-  board_with Position key body board = cond ((reading Position key body).number == 0) (enter (fix_of key body) board) board
-  board_with Survey key body board = board
-  board_with Application key body board = board
+  abbrev pub board_with : Option Kind → ℕ → List ℕ → List Fix → List Fix
+  board_with (Some Position) key body board = cond ((reading (Some Position) key body).number == 0) (enter (fix_of key body) board) board
+  board_with (Some Survey) key body board = board
+  board_with (Some Application) key body board = board
   board_with None key body board = board
 
   -- the board after a page

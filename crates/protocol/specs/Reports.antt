@@ -1,9 +1,9 @@
 -- The pages of a report, what is answered to them, and what a history delivered.
-use Rattle.std.specs.Prelude.{◌≡◌, ℕ, zero, suc, ◌+◌, ◌<◌, ◌≤◌, cond, List, [], ◌∷◌, ◌++◌, map, length, take, drop, ◌==◌}
+use Rattle.std.specs.Prelude.{◌≡◌, ℕ, zero, suc, ◌+◌, ◌<◌, ◌≤◌, cond, List, [], ◌∷◌, ◌++◌, map, length, take, drop, Some, None, Option, ◌==◌}
 use Rattle.packet.specs.Bytes.{AreBytes}
 use Rattle.packet.specs.Packets.{Packet}
 use Rattle.records.specs.declared.kind.Kind.{Kind}
-use Rattle.records.specs.declared.kind.Kind.TheVariants.{Position, Survey, Application, None}
+use Rattle.records.specs.declared.kind.Kind.TheVariants.{Position, Survey, Application}
 use Rattle.paging.specs.Schemes.{Scheme, reads}
 use Rattle.fixes.specs.declared.fix.Fix.{Fix}
 use Rattle.protocol.specs.Links.{Answer, Link, Reading, Fixing, idle, signal, page, report, other, refused}
@@ -58,14 +58,14 @@ times pull (forgot r) = times pull r
 times pull (looked rank r) = times pull r
 
 -- the scheme that a type goes to says what a key means
-abbrev pub meant : Scheme → Scheme → ℕ → ℕ → Kind
+abbrev pub meant : Scheme → Scheme → ℕ → ℕ → Option Kind
 meant a b type key = cond (type == a.type) (a.means key) (b.means key)
 
 -- the fix of a delivered report, where it is a position that was read
-abbrev pub fix_if_read : Reading → Fixing → Kind → ℕ → List ℕ → List Fix
-fix_if_read reading fix_of Position key body = cond ((reading Position key body).number == 0) (fix_of key body ∷ []) []
-fix_if_read reading fix_of Survey key body = []
-fix_if_read reading fix_of Application key body = []
+abbrev pub fix_if_read : Reading → Fixing → Option Kind → ℕ → List ℕ → List Fix
+fix_if_read reading fix_of (Some Position) key body = cond ((reading (Some Position) key body).number == 0) (fix_of key body ∷ []) []
+fix_if_read reading fix_of (Some Survey) key body = []
+fix_if_read reading fix_of (Some Application) key body = []
 fix_if_read reading fix_of None key body = []
 
 -- the fixes of all positions delivered and read, in the order of their delivery

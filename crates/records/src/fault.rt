@@ -5,7 +5,7 @@ ghost use Rattle.records.specs.Faults.{record_refusal};
 use refusal::Refusal;
 
 // Each fault with its place in the body; a report of no kind has none.
-#[derive(Clone, Copy)]
+#[derive(Clone, Copy, Debug, PartialEq, Eq)]
 pub enum RecordFault {
     EndsTooSoon(usize),
     BytesLeftOver(usize),
@@ -16,28 +16,23 @@ pub enum RecordFault {
     NoKind,
 }
 
-fn at(number: u8, place: usize) -> Refusal
-    ensures { result ≡ record { number = number; layer = 3; place = place } }
-{
-    Refusal {
-        number,
-        layer: 3,
-        place,
-    }
-}
+impl From<RecordFault> for Refusal {
+    ghost from_gives = { λ e r. r ≡ record_refusal e };
 
-impl RecordFault {
-    pub fn refusal(self) -> Refusal
-        ensures { result ≡ record_refusal self }
-    {
-        match self {
-            RecordFault::EndsTooSoon(place) => at(8, place),
-            RecordFault::BytesLeftOver(place) => at(9, place),
-            RecordFault::TooManySatellites(place) => at(10, place),
-            RecordFault::WrongVersion(place) => at(11, place),
-            RecordFault::StateAboveTwo(place) => at(12, place),
-            RecordFault::WrongRecordLength(place) => at(13, place),
-            RecordFault::NoKind => at(16, 0),
+    fn from(e: RecordFault) -> Refusal {
+        let (number, place) = match e {
+            RecordFault::EndsTooSoon(place) => (8, place),
+            RecordFault::BytesLeftOver(place) => (9, place),
+            RecordFault::TooManySatellites(place) => (10, place),
+            RecordFault::WrongVersion(place) => (11, place),
+            RecordFault::StateAboveTwo(place) => (12, place),
+            RecordFault::WrongRecordLength(place) => (13, place),
+            RecordFault::NoKind => (16, 0),
+        };
+        Refusal {
+            number,
+            layer: 3,
+            place,
         }
     }
 }

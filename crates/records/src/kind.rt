@@ -1,8 +1,7 @@
-// What kind of report a key means.
-#[derive(Clone, Copy)]
+// What kind of report a key means, where it means one.
+#[derive(Clone, Copy, Debug, PartialEq, Eq)]
 pub enum Kind {
     Position,
     Survey,
     Application,
-    None,
 }
