@@ -1,12 +1,11 @@
 -- What comes of a stream that begins with a start byte.
-use Rattle.std.proofs.Common.{◌≡◌, ℕ, ◌+◌, ◌-◌, ◌≤◌, max, Bool, true, false, cond, eqb, List, ◌++◌, length, get_or, take, drop, sym, refl, ap, ◌∙◌, zero-add, arith}
+use Rattle.std.proofs.Common.{◌≡◌, ℕ, ◌+◌, ◌-◌, ◌≤◌, max, Bool, true, false, cond, eqb, List, ◌++◌, length, get_or, take, drop, Some, Err, sym, refl, ap, ◌∙◌, zero-add, arith}
 use Rattle.std.proofs.lemmas.List.{take_all, drop_all, drop-drop, drop_at}
 use Rattle.refusal.specs.declared.Refusal.{Refusal}
 use Rattle.packet.specs.Packets.{Packet, short, lawful, front, claimed, parsed}
 use Rattle.packet.specs.Reads.{Reads, packet_refusal}
 use Rattle.packet.specs.declared.read.PacketFault.{PacketFault}
 use Rattle.packet.specs.declared.read.PacketFault.TheVariants.{NoEnd, WrongSum}
-use Rattle.packet.specs.declared.read.Start.TheVariants.{Broken}
 use Rattle.paging.specs.Schemes.{Scheme}
 use Rattle.joining.specs.Joining.{Held, Collected, collected}
 use Rattle.protocol.specs.Links.{Answer, Link, idle, other, refused, Reading, Fixing, Entering}
@@ -22,7 +21,7 @@ rest_waits h v n =
     let m : max n (length h) ≡ length h + (n - length h) = omega arith in
     ap (λ i. drop i (h ++ v)) m ∙ sym (drop-drop (n - length h) (length h) (h ++ v)) ∙ ap (drop (n - length h)) (drop_at h v (length h) refl)
 
-pub broken_by : (x w : List ℕ) (fault : PacketFault) → front x ≡ front w → get_or x 3 0 ≡ get_or w 3 0 → Reads x (Broken fault) → at_start w (front w) ≡ broken (packet_refusal fault)
+pub broken_by : (x w : List ℕ) (fault : PacketFault) → front x ≡ front w → get_or x 3 0 ≡ get_or w 3 0 → Reads x (Some (Err fault)) → at_start w (front w) ≡ broken (packet_refusal fault)
 broken_by x w (NoEnd p) f s r = ap (at_start w) (sym f ∙ r.0) ∙ ap (λ i. broken (record { number = 4; layer = 1; place = i })) (sym (r.1 ∙ ap (λ i. i + 5) s))
 broken_by x w (WrongSum p) f s r = ap (at_start w) (sym f ∙ r.0) ∙ ap (λ i. broken (record { number = 5; layer = 1; place = i })) (sym (r.1 ∙ ap (λ i. i + 4) s))
 
