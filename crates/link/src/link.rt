@@ -14,16 +14,13 @@ ghost use Rattle.link.specs.Views.{state_of, answer_of};
 
 use crate::answer::Answer;
 use crate::fault::LinkFault;
-use crate::route::send;
+use crate::route::{REPORT, send};
 use fixes::{Fix, FixBoard};
 use held::HeldBytes;
 use joining::collector::Collector;
 use line::Line;
 use packet::read::read;
 use paging::scheme::Scheme;
-
-// The length of the longest report.
-const REPORT: usize = 8064;
 
 const START: u8 = 2;
 
@@ -61,14 +58,15 @@ impl<A: Scheme, B: Scheme> Link<A, B> {
     pub fn pull<L: Line>(&mut self, line: &mut L, buffer: &mut [u8]) -> Answer
         ensures { record { answer = answer_of result; state = state_of self.new; waiting = L.Line.waiting line.new; buffer = buffer.new } ≡ pulled A.Scheme.model B.Scheme.model reading_by fix_of enter (state_of self.old) (L.Line.waiting line.old) buffer.old }
     {
-        if buffer.len() < REPORT {
-            return Answer::Refused(LinkFault::Buffer(buffer.len()));
-        }
+        let room = buffer.len();
+        let Some(start) = buffer.first_chunk_mut::<REPORT>() else {
+            return Answer::Refused(LinkFault::Buffer(room));
+        };
         let Some(b) = self.held.find(line, self.in_step) else {
             return Answer::Idle { held: 0 };
         };
         if b == START {
-            return self.open(line, buffer);
+            return self.open(line, start);
         }
         self.held.pass(1);
         Answer::Signal { byte: b }
@@ -108,8 +106,7 @@ impl<A: Scheme, B: Scheme> Link<A, B> {
     }
 
     // The packet that the stream begins with.
-    fn open<L: Line>(&mut self, line: &mut L, buffer: &mut [u8]) -> Answer
-        requires { 8064 ≤ length buffer.old }
+    fn open<L: Line>(&mut self, line: &mut L, buffer: &mut [u8; REPORT]) -> Answer
         ensures { record { answer = answer_of result; state = state_of self.new; waiting = L.Line.waiting line.new; buffer = buffer.new } ≡ opened A.Scheme.model B.Scheme.model reading_by fix_of enter (state_of self.old) (L.Line.waiting line.old) buffer.old }
     {
         let Link {

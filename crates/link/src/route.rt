@@ -19,8 +19,11 @@ use reading::read_report;
 use records::kind::Kind;
 use records::position;
 
-fn copy(body: &[u8], buffer: &mut [u8])
-    requires { length body.now ≤ length buffer.old }
+// The length of the longest report.
+pub(crate) const REPORT: usize = 8064;
+
+fn copy(body: &[u8], buffer: &mut [u8; REPORT])
+    requires { length body.now ≤ 8064 }
     ensures { buffer.new ≡ put body.now buffer.old }
 {
     let n = body.len();
@@ -56,9 +59,8 @@ fn join<S: Scheme>(
     to: &mut Collector<S>,
     board: &mut FixBoard,
     data: &[u8],
-    buffer: &mut [u8],
+    buffer: &mut [u8; REPORT],
 ) -> Answer
-    requires { 8064 ≤ length buffer.old }
     ensures { record { answer = answer_of result; held = held_of to.new; board = board_of board.new; buffer = buffer.new } ≡ joint reading_by fix_of enter S.Scheme.model «data».now (held_of to.old) (board_of board.old) buffer.old }
 {
     match to.add(data) {
@@ -88,10 +90,9 @@ pub(crate) fn send<A: Scheme, B: Scheme>(
     second: &mut Collector<B>,
     board: &mut FixBoard,
     packet: Packet<'_>,
-    buffer: &mut [u8],
+    buffer: &mut [u8; REPORT],
 ) -> Answer
-    requires room { 8064 ≤ length buffer.old }
-    requires short { length packet.data.now ≤ 255 }
+    requires { length packet.data.now ≤ 255 }
     ensures { record { answer = answer_of result; first = held_of first.new; second = held_of second.new; board = board_of board.new; buffer = buffer.new } ≡ route A.Scheme.model B.Scheme.model reading_by fix_of enter (held_of first.old) (held_of second.old) (board_of board.old) (record { status = packet.entry.status; type = packet.entry.kind; content = packet.entry.data.now }) buffer.old }
 {
     if packet.kind == A::packet_type() {
