@@ -19,7 +19,7 @@ pub trait Line {
 }
 
 // Raw bytes in the caller's memory; those before `at` are taken.
-#[derive(Drop)]
+#[derive(Debug, Drop)]
 pub struct Capture<'a> {
     bytes: &'a [u8],
     at: usize,
@@ -28,7 +28,7 @@ pub struct Capture<'a> {
 impl<'a> Capture<'a> {
     // All the bytes wait.
     pub fn new(bytes: &'a [u8]) -> Capture<'a>
-        ensures { drop result.at result.bytes.now ≡ bytes.now }
+        ensures { ⟦<Capture<'a> as Line>⟧.waiting result ≡ bytes.now }
     {
         Capture { bytes, at: 0 }
     }
@@ -37,8 +37,7 @@ impl<'a> Capture<'a> {
     pub fn taken(&self) -> usize
         ensures { result ≡ self.now.at }
     {
-        let Capture { bytes: _, at } = self;
-        *at
+        self.at
     }
 }
 
@@ -46,10 +45,7 @@ impl<'a> Line for Capture<'a> {
     ghost waiting = { λ t. drop t.at t.bytes.now };
 
     fn take(&mut self) -> Option<u8> {
-        if self.at >= self.bytes.len() {
-            return None;
-        }
-        let b = self.bytes[self.at];
+        let b = *self.bytes.get(self.at)?;
         self.at += 1;
         Some(b)
     }
