@@ -4,7 +4,7 @@
 // over any other line and takes up to 64 bytes from it at a time.
 #![tactic(auto)]
 
-ghost use Rattle.std.specs.Prelude.{◌≡◌, ℕ, ◌+◌, List, drop};
+ghost use Rattle.std.specs.Prelude.{◌≡◌, ℕ, ◌+◌, min, List, ◌++◌, length, take, drop};
 ghost use Rattle.line.specs.Takes.{Taken};
 
 pub mod read_ahead;
@@ -16,6 +16,22 @@ pub trait Line {
     // The first waiting byte, which is removed, or none where nothing waits.
     fn take(&mut self) -> Option<u8>
         ensures { Taken result (waiting self.old) (waiting self.new) };
+
+    // Takes bytes into the places, from the first place on, until all are filled or nothing waits, and answers
+    // how many it took.
+    final fn take_into(&mut self, places: &mut [u8]) -> usize
+        ensures count { result ≡ min (length places.old) (length (waiting self.old)) }
+        ensures places { places.new ≡ take result (waiting self.old) ++ drop result places.old }
+        ensures waits { waiting self.new ≡ drop result (waiting self.old) }
+    {
+        for (taken, place) in places.iter_mut().enumerate() {
+            let Some(b) = self.take() else {
+                return taken;
+            };
+            *place = b;
+        }
+        places.len()
+    }
 }
 
 // Raw bytes in the caller's memory; those before `at` are taken.
