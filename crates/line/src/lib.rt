@@ -4,7 +4,7 @@
 // over any other line and takes up to 64 bytes from it at a time.
 #![tactic(auto)]
 
-ghost use Rattle.std.specs.Prelude.{◌≡◌, ℕ, ◌+◌, List, drop};
+ghost use Rattle.std.specs.Prelude.{◌≡◌, ℕ, ◌+◌, min, List, ◌++◌, length, take, drop};
 ghost use Rattle.line.specs.Takes.{Taken};
 
 pub mod read_ahead;
@@ -16,10 +16,26 @@ pub trait Line {
     // The first waiting byte, which is removed, or none where nothing waits.
     fn take(&mut self) -> Option<u8>
         ensures { Taken result (waiting self.old) (waiting self.new) };
+
+    // Takes bytes into the places, from the first place on, until all are filled or nothing waits, and answers
+    // how many it took.
+    final fn take_into(&mut self, places: &mut [u8]) -> usize
+        ensures count { result ≡ min (length places.old) (length (waiting self.old)) }
+        ensures places { places.new ≡ take result (waiting self.old) ++ drop result places.old }
+        ensures waits { waiting self.new ≡ drop result (waiting self.old) }
+    {
+        for (taken, place) in places.iter_mut().enumerate() {
+            let Some(b) = self.take() else {
+                return taken;
+            };
+            *place = b;
+        }
+        places.len()
+    }
 }
 
 // Raw bytes in the caller's memory; those before `at` are taken.
-#[derive(Drop)]
+#[derive(Debug, Drop)]
 pub struct Capture<'a> {
     bytes: &'a [u8],
     at: usize,
@@ -28,7 +44,7 @@ pub struct Capture<'a> {
 impl<'a> Capture<'a> {
     // All the bytes wait.
     pub fn new(bytes: &'a [u8]) -> Capture<'a>
-        ensures { drop result.at result.bytes.now ≡ bytes.now }
+        ensures { ⟦<Capture<'a> as Line>⟧.waiting result ≡ bytes.now }
     {
         Capture { bytes, at: 0 }
     }
@@ -37,8 +53,7 @@ impl<'a> Capture<'a> {
     pub fn taken(&self) -> usize
         ensures { result ≡ self.now.at }
     {
-        let Capture { bytes: _, at } = self;
-        *at
+        self.at
     }
 }
 
@@ -46,10 +61,7 @@ impl<'a> Line for Capture<'a> {
     ghost waiting = { λ t. drop t.at t.bytes.now };
 
     fn take(&mut self) -> Option<u8> {
-        if self.at >= self.bytes.len() {
-            return None;
-        }
-        let b = self.bytes[self.at];
+        let b = *self.bytes.get(self.at)?;
         self.at += 1;
         Some(b)
     }

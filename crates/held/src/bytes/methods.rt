@@ -1,21 +1,40 @@
 // What can be done with the held bytes.
 ghost use Rattle.std.specs.Prelude.{◌≡◌, ℕ, ◌+◌, ◌-◌, ◌<◌, ◌≤◌, max, List, [], ◌∷◌, ◌++◌, length, drop};
+ghost use Rattle.std.specs.List.{position_or_len};
 ghost use Rattle.packet.specs.Packets.{claimed};
-ghost use Rattle.protocol.specs.Pulls.{is_signal};
 ghost use Rattle.held.specs.Streams.{head_of, stops, passed, seen, unseen, found_held, found_waiting};
 ghost use Rattle.held.specs.Views.{held_in};
 
 use super::HeldBytes;
 use line::Line;
 
+// The first byte of a packet.
+const START: u8 = 2;
+
+// The signals.
+const ENQ: u8 = 5;
+
+const ACK: u8 = 6;
+
+const NAK: u8 = 21;
+
+// Whether a search stops at a byte.
 fn is_stop(b: u8, in_step: bool) -> bool
     ensures { result ≡ stops in_step b }
 {
-    b == 2 || (in_step && (b == 5 || b == 6 || b == 21))
+    b == START || (in_step && matches!(b, ENQ | ACK | NAK))
+}
+
+// How many bytes come before the first that stops.
+fn before_stop(bytes: &[u8], in_step: bool) -> usize
+    ensures { result ≡ position_or_len (stops in_step) bytes.now }
+{
+    bytes.iter().take_while(|b| !is_stop(**b, in_step)).count()
 }
 
 // Passes over waiting bytes up to the first that stops, which is taken too, and answers it. Nothing is
 // written here but the line's own place.
+#[tactic(auto, using(crate::proofs::Finds::stepped))]
 fn pass_waiting<L: Line>(line: &mut L, in_step: bool) -> Option<u8>
     ensures waiting { L.Line.waiting line.new ≡ drop 1 (drop (passed in_step (L.Line.waiting line.old)) (L.Line.waiting line.old)) }
     ensures answer { result ≡ head_of (drop (passed in_step (L.Line.waiting line.old)) (L.Line.waiting line.old)) }
@@ -62,11 +81,7 @@ impl HeldBytes {
     pub fn pass(&mut self, n: usize)
         ensures { held_in self.new ≡ drop n (held_in self.old) }
     {
-        if n < self.end - self.start {
-            self.start += n;
-        } else {
-            self.start = self.end;
-        }
+        self.start += n.min(self.len());
     }
 
     // Sees that the array has room for so many bytes from the start on.
@@ -78,11 +93,9 @@ impl HeldBytes {
         if self.start <= 522 - n {
             return;
         }
-        let old = self.bytes;
-        let len = self.end - self.start;
-        self.bytes[0..len].copy_from_slice(&old[self.start..self.end]);
+        self.bytes.copy_within(self.start..self.end, 0);
+        self.end -= self.start;
         self.start = 0;
-        self.end = len;
     }
 
     // Takes bytes from the line until so many are held or nothing waits.
@@ -91,38 +104,22 @@ impl HeldBytes {
         ensures held { held_in self.new ≡ seen n (held_in self.old ++ L.Line.waiting line.old) (length (held_in self.old)) }
         ensures waiting { L.Line.waiting line.new ≡ unseen n (held_in self.old ++ L.Line.waiting line.old) (length (held_in self.old)) }
     {
-        if self.end - self.start >= n {
+        if self.len() >= n {
             return;
         }
         self.make_room(n);
-        // The end is kept in a variable meanwhile: written byte by byte behind a reference, it would be
-        // read back for each byte.
-        let to = self.start + n;
-        let mut end = self.end;
-        while end < to {
-            let Some(b) = line.take() else {
-                self.end = end;
-                return;
-            };
-            self.bytes[end] = b;
-            end += 1;
-        }
-        self.end = end;
+        let taken = line.take_into(&mut self.bytes[self.end..self.start + n]);
+        self.end += taken;
     }
 
     // Passes over held bytes up to the first that stops, and answers it.
+    #[tactic(auto, using(crate::proofs::Finds::passed_is))]
     fn pass_held(&mut self, in_step: bool) -> Option<u8>
         ensures held { held_in self.new ≡ drop (passed in_step (held_in self.old)) (held_in self.old) }
         ensures answer { result ≡ head_of (drop (passed in_step (held_in self.old)) (held_in self.old)) }
     {
-        while self.start < self.end {
-            let b = self.bytes[self.start];
-            if is_stop(b, in_step) {
-                return Some(b);
-            }
-            self.start += 1;
-        }
-        None
+        self.pass(before_stop(self.all(), in_step));
+        self.all().first().copied()
     }
 
     // Passes over bytes up to the first that is a start byte or, in step, a signal.
@@ -134,9 +131,7 @@ impl HeldBytes {
         if let Some(b) = self.pass_held(in_step) {
             return Some(b);
         }
-        let Some(b) = pass_waiting(line, in_step) else {
-            return None;
-        };
+        let b = pass_waiting(line, in_step)?;
         self.bytes[0] = b;
         self.start = 0;
         self.end = 1;
@@ -149,10 +144,10 @@ impl HeldBytes {
         ensures waiting { L.Line.waiting line.new ≡ unseen (claimed (held_in self.old ++ L.Line.waiting line.old)) (held_in self.old ++ L.Line.waiting line.old) (length (held_in self.old)) }
     {
         self.fill(line, 4);
-        if self.end - self.start < 4 {
+        let Some(length) = self.all().get(3) else {
             return;
-        }
-        let size = self.bytes[self.start + 3] as usize + 6;
+        };
+        let size = usize::from(*length) + 6;
         self.fill(line, size);
     }
 }
