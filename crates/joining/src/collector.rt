@@ -104,7 +104,7 @@ impl<S: Scheme> Collector<S> {
         ensures refused { Emptied result (bytes_of self.new.store) }
     {
         match S::read(data) {
-            Ok((key, page, total)) => self.place(key, page, total, &data[S::header_size()..]),
+            Ok((key, page, total)) => self.place(key, page, total, &data[S::HEADER..]),
             Err(fault) => {
                 self.drop_pages();
                 Err(fault)

@@ -1,4 +1,5 @@
 // Application files: block number, page index from 0, greatest page index.
+ghost use Rattle.std.specs.Prelude.{refl};
 ghost use Rattle.paging.specs.AppFiles.{app_file};
 ghost use Rattle.paging.specs.AppLaws;
 
@@ -18,25 +19,25 @@ impl Scheme for AppFile {
 
     const KEYS: u64 = 256;
 
+    ghost TYPE = { app_file.type };
+
+    ghost HEADER = { app_file.header };
+
+    ghost PAGES = { app_file.pages };
+
+    ghost KEYS = { app_file.keys };
+
     ghost model = { app_file };
 
+    ghost type_is = { refl };
+
+    ghost header_is = { refl };
+
+    ghost pages_is = { refl };
+
+    ghost keys_is = { refl };
+
     ghost lawful = { AppLaws.lawful };
-
-    fn packet_type() -> u8 {
-        Self::TYPE
-    }
-
-    fn header_size() -> usize {
-        Self::HEADER
-    }
-
-    fn page_limit() -> u16 {
-        Self::PAGES
-    }
-
-    fn key_limit() -> u64 {
-        Self::KEYS
-    }
 
     fn read(data: &[u8]) -> Result<(u32, u16, u16), PageFault> {
         if data.len() < 3 {
