@@ -4,6 +4,7 @@ ghost use Rattle.paging.specs.AppFiles.{app_file};
 ghost use Rattle.paging.specs.AppLaws;
 
 use crate::fault::PageFault;
+use crate::header::Header;
 use crate::scheme::Scheme;
 use records::kind::Kind;
 
@@ -51,7 +52,8 @@ impl Scheme for AppFile {
         Ok((data[0] as u32, index + 1, greatest + 1))
     }
 
-    fn write(key: u32, page: u16, total: u16, out: &mut [u8]) -> bool {
+    fn write(header: Header, out: &mut [u8]) -> bool {
+        let Header { key, page, total } = header;
         if key as u64 >= Self::KEYS || page == 0 || total < page || total > Self::PAGES {
             return false;
         }

@@ -4,6 +4,7 @@ ghost use Rattle.paging.specs.RawDatas.{raw_data};
 ghost use Rattle.paging.specs.RawLaws;
 
 use crate::fault::PageFault;
+use crate::header::Header;
 use crate::scheme::Scheme;
 use records::kind::Kind;
 
@@ -52,7 +53,8 @@ impl Scheme for RawData {
         Ok((key, page, total))
     }
 
-    fn write(key: u32, page: u16, total: u16, out: &mut [u8]) -> bool {
+    fn write(header: Header, out: &mut [u8]) -> bool {
+        let Header { key, page, total } = header;
         if key as u64 >= Self::KEYS || page == 0 || total < page || total > Self::PAGES {
             return false;
         }

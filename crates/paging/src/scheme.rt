@@ -5,6 +5,7 @@ ghost use Rattle.paging.specs.Headers.{read_by};
 ghost use Rattle.paging.specs.Writes.{header_fits, headed};
 
 use crate::fault::PageFault;
+use crate::header::Header;
 use records::kind::Kind;
 
 // The constants are the scheme's numbers, tied to the model by the laws below the functions.
@@ -33,9 +34,9 @@ pub trait Scheme {
 
     // Puts the header at the start of the bytes and answers true, where its numbers are within the
     // scheme's limits and there is room for it. Else nothing is written.
-    fn write(key: u32, page: u16, total: u16, out: &mut [u8]) -> bool
-        ensures answer { result ≡ header_fits model (record { key = key; page = page; total = total }) (length out.old) }
-        ensures bytes { out.new ≡ headed model (record { key = key; page = page; total = total }) out.old };
+    fn write(header: Header, out: &mut [u8]) -> bool
+        ensures answer { result ≡ header_fits model header (length out.old) }
+        ensures bytes { out.new ≡ headed model header out.old };
 
     // The kind of report that a key means.
     fn means(key: u32) -> Kind

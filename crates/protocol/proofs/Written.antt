@@ -3,7 +3,8 @@ use Rattle.std.proofs.Common.{◌≡◌, ℕ, zero, suc, ◌+◌, ◌-◌, ◌*�
 use Rattle.std.proofs.lemmas.List.{drop_at}
 use Rattle.packet.specs.Bytes.{AreBytes, concat}
 use Rattle.packet.proofs.Bytes.{bytes_append, bytes_take, bytes_drop}
-use Rattle.paging.specs.Schemes.{Scheme, Header, Laws}
+use Rattle.paging.specs.declared.header.Header.{Header}
+use Rattle.paging.specs.Schemes.{Scheme, Laws}
 use Rattle.joining.specs.Joining.{Held}
 use Rattle.writing.specs.Writes.{body_size, part_of, page_of, pages_from, page_count}
 use Rattle.writing.specs.Cuts.{parts_from}

@@ -6,6 +6,7 @@ ghost use Rattle.writing.specs.Cuts.{PagesHoldTheReport};
 ghost use Rattle.writing.specs.Writes.{body_size, page_count, written, report_sent};
 
 use packet::write::{WriteFault, write};
+use paging::header::Header;
 use paging::scheme::Scheme;
 
 // The bytes of a report that a full page holds.
@@ -53,13 +54,13 @@ pub fn pages_hold_the_report() -> u8
 }
 
 // A page's data, its header first, at the start of the bytes; answers how many it is.
-fn lay<S: Scheme>(key: u32, page: u16, total: u16, part: &[u8], bytes: &mut [u8]) -> usize
-    requires within { Within S.Scheme.model (record { key = key; page = page; total = total }) }
+fn lay<S: Scheme>(header: Header, part: &[u8], bytes: &mut [u8]) -> usize
+    requires within { Within S.Scheme.model header }
     requires room { S.Scheme.model.header + length part.now ≤ length bytes.old }
     ensures size { result ≡ S.Scheme.model.header + length part.now }
-    ensures bytes { bytes.new ≡ (S.Scheme.model.write (record { key = key; page = page; total = total }) ++ part.now) ++ drop result bytes.old }
+    ensures bytes { bytes.new ≡ (S.Scheme.model.write header ++ part.now) ++ drop result bytes.old }
 {
-    let _ = S::write(key, page, total, bytes);
+    let _ = S::write(header, bytes);
     let end = S::HEADER + part.len();
     bytes[S::HEADER..end].copy_from_slice(part);
     end
@@ -86,13 +87,12 @@ fn write_pages<S: Scheme>(
         let from = index * body;
         let end = report.len().min(from + body);
         let mut page = [0; 255];
-        let size = lay::<S>(
+        let header = Header {
             key,
-            index as u16 + 1,
-            pages as u16,
-            &report[from..end],
-            &mut page,
-        );
+            page: index as u16 + 1,
+            total: pages as u16,
+        };
+        let size = lay::<S>(header, &report[from..end], &mut page);
         at += write(0, S::TYPE, &page[..size], &mut out[at..])?;
     }
     Ok(at)
