@@ -1,7 +1,8 @@
 -- What a page does to the pages held of its scheme.
 use Rattle.std.specs.Prelude.{ℕ, ◌+◌, Bool, cond, ◌&&◌, List, [], ◌++◌, length, drop, ◌==◌, nat_le}
 use Rattle.refusal.specs.declared.Refusal.{Refusal}
-use Rattle.paging.specs.Schemes.{Scheme, Header, Head, reads, too_short, unfit}
+use Rattle.paging.specs.declared.header.Header.{Header}
+use Rattle.paging.specs.Schemes.{Scheme, Head, reads, too_short, unfit}
 use Rattle.paging.specs.declared.fault.PageFault.TheVariants.{Short, Unfit, OutOfTurn}
 use Rattle.paging.specs.Headers.{page_refusal}
 

@@ -5,10 +5,11 @@ ghost use Rattle.joining.specs.Views.{held_of, bytes_of, joined_of, Emptied};
 
 use crate::store::Store;
 use paging::fault::PageFault;
+use paging::header::Header;
 use paging::scheme::Scheme;
 use std::marker::PhantomData;
 
-#[derive(Clone, Copy)]
+#[derive(Clone, Copy, Debug, PartialEq, Eq)]
 pub enum Step {
     More(u16, u16),
     Whole(u32),
@@ -56,22 +57,26 @@ impl<S: Scheme> Collector<S> {
     }
 
     // Whether a page comes behind those held.
-    fn follows(&self, key: u32, page: u16, total: u16) -> bool
-        ensures { result ≡ next_page (record { key = key; page = page; total = total }) (held_of self.now) }
+    fn follows(&self, header: Header) -> bool
+        ensures { result ≡ next_page header (held_of self.now) }
     {
-        page > self.count && page - self.count == 1 && key == self.key && total == self.total
+        header.page > self.count
+            && header.page - self.count == 1
+            && header.key == self.key
+            && header.total == self.total
     }
 
     // Adds a body to the bytes in the store.
-    fn keep(&mut self, key: u32, page: u16, total: u16, body: &[u8]) -> Result<Step, PageFault>
-        requires { page ≢ 0 }
-        ensures page { record { joined = joined_of result (bytes_of self.new.store); held = held_of self.new } ≡ kept (record { key = key; page = page; total = total }) (bytes_of self.old.store ++ body.now) }
+    fn keep(&mut self, header: Header, body: &[u8]) -> Result<Step, PageFault>
+        requires { header.page ≢ 0 }
+        ensures page { record { joined = joined_of result (bytes_of self.new.store); held = held_of self.new } ≡ kept header (bytes_of self.old.store ++ body.now) }
         ensures refused { Emptied result (bytes_of self.new.store) }
     {
         if !self.store.add(body) {
             self.drop_pages();
-            return Err(PageFault::OutOfTurn(page as usize));
+            return Err(PageFault::OutOfTurn(header.page as usize));
         }
+        let Header { key, page, total } = header;
         if page == total {
             self.close();
             return Ok(Step::Whole(key));
@@ -83,19 +88,19 @@ impl<S: Scheme> Collector<S> {
     }
 
     // Puts a body at the place that its header names.
-    fn place(&mut self, key: u32, page: u16, total: u16, body: &[u8]) -> Result<Step, PageFault>
-        ensures page { record { joined = joined_of result (bytes_of self.new.store); held = held_of self.new } ≡ placed (record { key = key; page = page; total = total }) body.now (held_of self.old) }
+    fn place(&mut self, header: Header, body: &[u8]) -> Result<Step, PageFault>
+        ensures page { record { joined = joined_of result (bytes_of self.new.store); held = held_of self.new } ≡ placed header body.now (held_of self.old) }
         ensures refused { Emptied result (bytes_of self.new.store) }
     {
-        if page == 1 {
+        if header.page == 1 {
             self.drop_pages();
-            return self.keep(key, page, total, body);
+            return self.keep(header, body);
         }
-        if self.follows(key, page, total) {
-            return self.keep(key, page, total, body);
+        if self.follows(header) {
+            return self.keep(header, body);
         }
         self.drop_pages();
-        Err(PageFault::OutOfTurn(page as usize))
+        Err(PageFault::OutOfTurn(header.page as usize))
     }
 
     // Joins a page to those held. A whole report stays in the store until the next page comes.
@@ -104,7 +109,7 @@ impl<S: Scheme> Collector<S> {
         ensures refused { Emptied result (bytes_of self.new.store) }
     {
         match S::read(data) {
-            Ok((key, page, total)) => self.place(key, page, total, &data[S::header_size()..]),
+            Ok((key, page, total)) => self.place(Header { key, page, total }, &data[S::HEADER..]),
             Err(fault) => {
                 self.drop_pages();
                 Err(fault)

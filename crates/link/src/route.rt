@@ -65,7 +65,7 @@ fn join<S: Scheme>(
 {
     match to.add(data) {
         Ok(Step::More(number, total)) => Answer::Page {
-            kind: S::packet_type(),
+            kind: S::TYPE,
             number,
             total,
         },
@@ -74,7 +74,7 @@ fn join<S: Scheme>(
             copy(body, buffer);
             let reading = deliver(S::means(key), key, body, board);
             Answer::Report {
-                kind: S::packet_type(),
+                kind: S::TYPE,
                 key,
                 len: body.len(),
                 reading,
@@ -95,10 +95,10 @@ pub(crate) fn send<A: Scheme, B: Scheme>(
     requires { length packet.data.now ≤ 255 }
     ensures { record { answer = answer_of result; first = held_of first.new; second = held_of second.new; board = board_of board.new; buffer = buffer.new } ≡ route A.Scheme.model B.Scheme.model reading_by fix_of enter (held_of first.old) (held_of second.old) (board_of board.old) (record { status = packet.entry.status; type = packet.entry.kind; content = packet.entry.data.now }) buffer.old }
 {
-    if packet.kind == A::packet_type() {
+    if packet.kind == A::TYPE {
         return join(first, board, packet.data, buffer);
     }
-    if packet.kind == B::packet_type() {
+    if packet.kind == B::TYPE {
         return join(second, board, packet.data, buffer);
     }
     copy(packet.data, buffer);

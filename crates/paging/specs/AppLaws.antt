@@ -4,7 +4,8 @@ use Rattle.std.proofs.Common.{sym, ap, ◌∙◌, arith}
 use Rattle.std.proofs.lemmas.Bool.Decides.{nat_tests}
 use Rattle.std.proofs.lemmas.Bool.{cond-false, le-ltb}
 use Rattle.packet.specs.Bytes.{AreBytes}
-use Rattle.paging.specs.Schemes.{Header, Head, reads, too_short, Within, Laws}
+use Rattle.paging.specs.declared.header.Header.{Header}
+use Rattle.paging.specs.Schemes.{Head, reads, too_short, Within, Laws}
 use Rattle.paging.specs.AppFiles.{app_file, indexed}
 
 indexed_back : (k i g : ℕ) → i ≤ g → g ≤ 31 → indexed k i g ≡ reads (record { key = k; page = i + 1; total = g + 1 })

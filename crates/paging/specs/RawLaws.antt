@@ -4,7 +4,8 @@ use Rattle.std.proofs.Common.{sym, ◌∙◌, arith}
 use Rattle.std.proofs.lemmas.Bool.Decides.{nat_tests}
 use Rattle.std.proofs.lemmas.Bool.{cond-false, le-ltb}
 use Rattle.packet.specs.Bytes.{AreBytes}
-use Rattle.paging.specs.Schemes.{Header, Head, reads, too_short, Within, Laws}
+use Rattle.paging.specs.declared.header.Header.{Header}
+use Rattle.paging.specs.Schemes.{Head, reads, too_short, Within, Laws}
 use Rattle.paging.specs.RawDatas.{raw_data, paged}
 
 paged_back : (k p t : ℕ) → 1 ≤ p → p ≤ t → paged k p t ≡ reads (record { key = k; page = p; total = t })

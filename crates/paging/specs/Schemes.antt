@@ -2,12 +2,7 @@
 use Rattle.std.specs.Prelude.{◌≡◌, ℕ, ◌-◌, ◌*◌, ◌<◌, ◌≤◌, List, ◌++◌, length, take, Option}
 use Rattle.packet.specs.Bytes.{AreBytes}
 use Rattle.records.specs.declared.kind.Kind.{Kind}
-
--- the header of a page: the report's key, the page's number from 1 on, and the number of its pages
-pub record Header : Type 0 where
-  pub key : ℕ
-  pub page : ℕ
-  pub total : ℕ
+use Rattle.paging.specs.declared.header.Header.{Header}
 
 -- what a packet's data begins with
 pub data Head : Type 0 where

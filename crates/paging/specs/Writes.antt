@@ -1,6 +1,7 @@
 -- How a header is written.
 use Rattle.std.specs.Prelude.{ℕ, Bool, cond, ◌&&◌, List, ◌++◌, length, drop, nat_le, nat_lt}
-use Rattle.paging.specs.Schemes.{Scheme, Header}
+use Rattle.paging.specs.declared.header.Header.{Header}
+use Rattle.paging.specs.Schemes.{Scheme}
 
 -- the header's numbers are within the scheme's limits, and it has room in so many bytes
 abbrev pub header_fits : Scheme → Header → ℕ → Bool

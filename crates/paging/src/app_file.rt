@@ -1,8 +1,10 @@
 // Application files: block number, page index from 0, greatest page index.
+ghost use Rattle.std.specs.Prelude.{refl};
 ghost use Rattle.paging.specs.AppFiles.{app_file};
 ghost use Rattle.paging.specs.AppLaws;
 
 use crate::fault::PageFault;
+use crate::header::Header;
 use crate::scheme::Scheme;
 use records::kind::Kind;
 
@@ -18,25 +20,25 @@ impl Scheme for AppFile {
 
     const KEYS: u64 = 256;
 
+    ghost TYPE = { app_file.type };
+
+    ghost HEADER = { app_file.header };
+
+    ghost PAGES = { app_file.pages };
+
+    ghost KEYS = { app_file.keys };
+
     ghost model = { app_file };
 
+    ghost type_is = { refl };
+
+    ghost header_is = { refl };
+
+    ghost pages_is = { refl };
+
+    ghost keys_is = { refl };
+
     ghost lawful = { AppLaws.lawful };
-
-    fn packet_type() -> u8 {
-        Self::TYPE
-    }
-
-    fn header_size() -> usize {
-        Self::HEADER
-    }
-
-    fn page_limit() -> u16 {
-        Self::PAGES
-    }
-
-    fn key_limit() -> u64 {
-        Self::KEYS
-    }
 
     fn read(data: &[u8]) -> Result<(u32, u16, u16), PageFault> {
         if data.len() < 3 {
@@ -50,7 +52,8 @@ impl Scheme for AppFile {
         Ok((data[0] as u32, index + 1, greatest + 1))
     }
 
-    fn write(key: u32, page: u16, total: u16, out: &mut [u8]) -> bool {
+    fn write(header: Header, out: &mut [u8]) -> bool {
+        let Header { key, page, total } = header;
         if key as u64 >= Self::KEYS || page == 0 || total < page || total > Self::PAGES {
             return false;
         }

@@ -6,5 +6,6 @@
 
 pub mod app_file;
 pub mod fault;
+pub mod header;
 pub mod raw_data;
 pub mod scheme;

@@ -1,8 +1,10 @@
 // RAWDATA: record type, paging byte, reply number, interpretation flags.
+ghost use Rattle.std.specs.Prelude.{refl};
 ghost use Rattle.paging.specs.RawDatas.{raw_data};
 ghost use Rattle.paging.specs.RawLaws;
 
 use crate::fault::PageFault;
+use crate::header::Header;
 use crate::scheme::Scheme;
 use records::kind::Kind;
 
@@ -18,25 +20,25 @@ impl Scheme for RawData {
 
     const KEYS: u64 = 16777216;
 
+    ghost TYPE = { raw_data.type };
+
+    ghost HEADER = { raw_data.header };
+
+    ghost PAGES = { raw_data.pages };
+
+    ghost KEYS = { raw_data.keys };
+
     ghost model = { raw_data };
 
+    ghost type_is = { refl };
+
+    ghost header_is = { refl };
+
+    ghost pages_is = { refl };
+
+    ghost keys_is = { refl };
+
     ghost lawful = { RawLaws.lawful };
-
-    fn packet_type() -> u8 {
-        Self::TYPE
-    }
-
-    fn header_size() -> usize {
-        Self::HEADER
-    }
-
-    fn page_limit() -> u16 {
-        Self::PAGES
-    }
-
-    fn key_limit() -> u64 {
-        Self::KEYS
-    }
 
     fn read(data: &[u8]) -> Result<(u32, u16, u16), PageFault> {
         if data.len() < 4 {
@@ -51,7 +53,8 @@ impl Scheme for RawData {
         Ok((key, page, total))
     }
 
-    fn write(key: u32, page: u16, total: u16, out: &mut [u8]) -> bool {
+    fn write(header: Header, out: &mut [u8]) -> bool {
+        let Header { key, page, total } = header;
         if key as u64 >= Self::KEYS || page == 0 || total < page || total > Self::PAGES {
             return false;
         }

@@ -1,14 +1,14 @@
 // What a page scheme is.
-ghost use Rattle.std.specs.Prelude.{◌≡◌, length};
+ghost use Rattle.std.specs.Prelude.{◌≡◌, ℕ, length};
 ghost use Rattle.paging.specs.Schemes.{Scheme as Model, Laws};
 ghost use Rattle.paging.specs.Headers.{read_by};
 ghost use Rattle.paging.specs.Writes.{header_fits, headed};
 
 use crate::fault::PageFault;
+use crate::header::Header;
 use records::kind::Kind;
 
-// The constants are the scheme's numbers. Each has a function that answers it, whose contract ties it
-// to the model: generic code is told nothing of a constant itself.
+// The constants are the scheme's numbers, tied to the model by the laws below the functions.
 pub trait Scheme {
     const TYPE: u8;
 
@@ -18,19 +18,15 @@ pub trait Scheme {
 
     const KEYS: u64;
 
+    ghost TYPE: { ℕ };
+
+    ghost HEADER: { ℕ };
+
+    ghost PAGES: { ℕ };
+
+    ghost KEYS: { ℕ };
+
     ghost model: { Model };
-
-    fn packet_type() -> u8
-        ensures { result ≡ model.type };
-
-    fn header_size() -> usize
-        ensures { result ≡ model.header };
-
-    fn page_limit() -> u16
-        ensures { result ≡ model.pages };
-
-    fn key_limit() -> u64
-        ensures { result ≡ model.keys };
 
     // The key, the page and the total of a header.
     fn read(data: &[u8]) -> Result<(u32, u16, u16), PageFault>
@@ -38,13 +34,21 @@ pub trait Scheme {
 
     // Puts the header at the start of the bytes and answers true, where its numbers are within the
     // scheme's limits and there is room for it. Else nothing is written.
-    fn write(key: u32, page: u16, total: u16, out: &mut [u8]) -> bool
-        ensures answer { result ≡ header_fits model (record { key = key; page = page; total = total }) (length out.old) }
-        ensures bytes { out.new ≡ headed model (record { key = key; page = page; total = total }) out.old };
+    fn write(header: Header, out: &mut [u8]) -> bool
+        ensures answer { result ≡ header_fits model header (length out.old) }
+        ensures bytes { out.new ≡ headed model header out.old };
 
     // The kind of report that a key means, if it means one.
     fn means(key: u32) -> Option<Kind>
         ensures { result ≡ model.means key };
+
+    ghost type_is: { TYPE ≡ model.type };
+
+    ghost header_is: { HEADER ≡ model.header };
+
+    ghost pages_is: { PAGES ≡ model.pages };
+
+    ghost keys_is: { KEYS ≡ model.keys };
 
     ghost lawful: { Laws model };
 }

@@ -4,7 +4,8 @@ use Rattle.std.proofs.lemmas.List.{length_push}
 use Rattle.std.proofs.lemmas.Bool.{cond_both, eqb-true, and_parts}
 use Rattle.packet.specs.Bytes.{AreBytes, concat}
 use Rattle.packet.specs.Packets.{Packet, frame}
-use Rattle.paging.specs.Schemes.{Scheme, Header, Head, reads, too_short, unfit}
+use Rattle.paging.specs.declared.header.Header.{Header}
+use Rattle.paging.specs.Schemes.{Scheme, Head, reads, too_short, unfit}
 use Rattle.joining.specs.Joining.{Held, no_pages, Joined, more, whole, refuses, Collected, joined_to, kept, next_page, read_page, collected, out_of_turn}
 use Rattle.protocol.specs.Reports.{Pages}
 use Rattle.protocol.specs.Spans.{Span, Stand, Apart}

@@ -3,7 +3,8 @@ use Rattle.std.proofs.Common.{◌≡◌, ℕ, ◌+◌, ◌-◌, ◌*◌, ◌≤�
 use Rattle.std.proofs.lemmas.Bool.{cond-true, eqb-true, le-leb, and_parts}
 use Rattle.packet.specs.Bytes.{AreBytes, concat}
 use Rattle.packet.specs.Packets.{Packet}
-use Rattle.paging.specs.Schemes.{Scheme, Header, Head, reads, too_short, unfit, Laws}
+use Rattle.paging.specs.declared.header.Header.{Header}
+use Rattle.paging.specs.Schemes.{Scheme, Head, reads, too_short, unfit, Laws}
 use Rattle.joining.specs.Joining.{Held, joined_to, kept, next_page, read_page, collected}
 use Rattle.protocol.specs.Roomless.{read_roomless, collected_roomless}
 use Rattle.protocol.specs.Promises.{RoomNeverRefuses, ForLawfulSchemes}

@@ -4,7 +4,8 @@ use Rattle.std.proofs.lemmas.List.{nil_from_length}
 use Rattle.std.proofs.lemmas.Bool.{eq-eqb, ne_eqb, cases_eq}
 use Rattle.packet.specs.Bytes.{AreBytes}
 use Rattle.packet.specs.Packets.{Packet}
-use Rattle.paging.specs.Schemes.{Scheme, Header, reads, Laws}
+use Rattle.paging.specs.declared.header.Header.{Header}
+use Rattle.paging.specs.Schemes.{Scheme, reads, Laws}
 use Rattle.joining.specs.Joining.{Held, no_pages, Collected, collected, joined_to, kept, placed, more, whole}
 use Rattle.protocol.specs.Links.{Reading, Fixing, Entering, Link}
 use Rattle.protocol.specs.Pulls.{Pull, answer_to, written_by, routed}

@@ -1,6 +1,7 @@
 -- The joining of pages without the test of room.
 use Rattle.std.specs.Prelude.{ℕ, cond, List, ◌++◌, drop, ◌==◌}
-use Rattle.paging.specs.Schemes.{Scheme, Header, Head, reads, too_short, unfit}
+use Rattle.paging.specs.declared.header.Header.{Header}
+use Rattle.paging.specs.Schemes.{Scheme, Head, reads, too_short, unfit}
 use Rattle.joining.specs.Joining.{Held, Collected, out_of_turn, joined_to, next_page, read_page}
 
 -- page 1 begins a report, and the next page goes on with it, whatever room there is

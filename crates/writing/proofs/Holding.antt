@@ -1,9 +1,9 @@
 -- The pages of a report hold it.
-use Rattle.std.proofs.Common.{◌≡◌, ℕ, zero, suc, ◌+◌, ◌-◌, ◌*◌, ◌/◌, ◌<◌, ◌≤◌, List, ◌++◌, length, take, drop, sym, refl, ap, ◌∙◌, subst, suc-mul, zero-mul, add-one, arith}
+use Rattle.std.proofs.Common.{◌≡◌, ℕ, zero, suc, ◌+◌, ◌-◌, ◌*◌, ◌<◌, ◌≤◌, List, ◌++◌, length, take, drop, sym, ap, ◌∙◌, suc-mul, zero-mul, add-one, arith}
 use Rattle.std.proofs.lemmas.List.{take-append-drop, take-take, drop-take, drop-drop, take_all}
 use Rattle.packet.specs.Bytes.{concat}
 use Rattle.paging.specs.Schemes.{Scheme, Laws}
-use Rattle.writing.specs.Writes.{body_size, part_of}
+use Rattle.writing.specs.Writes.{body_size, page_count, part_of}
 use Rattle.writing.specs.Cuts.{parts_from, PagesHoldTheReport}
 use Rattle.writing.proofs.Cutting.{end_last, start_below, full_page, length_part}
 
@@ -26,24 +26,21 @@ module _ (s : Scheme) (report : List ℕ) where
       ∙ take_step size (k * size) (drop (n * size) report)
       ∙ ap (λ i. take i (drop (n * size) report)) all
 
-  module _ (laws : Laws s) where
-    abbrev full : ℕ
-    full = (length report - 1) / body_size s
+module _ (s : Scheme) (laws : Laws s) (report : List ℕ) where
+  abbrev pages : ℕ
+  pages = page_count s (length report)
 
-    whole_report : concat (parts_from s report 0 (full + 1)) ≡ report
-    whole_report =
-        let all : (full + 1) * body_size s ≡ full * body_size s + body_size s = ap (λ i. i * body_size s) (add-one full) ∙ suc-mul full (body_size s) in
-        joined 0 (full + 1)
-        ∙ ap (λ i. take ((full + 1) * body_size s) (drop i report)) (zero-mul (body_size s))
-        ∙ take_all ((full + 1) * body_size s) report (omega (arith, end_last s laws (length report) full refl))
+  whole : concat (parts_from s report 0 pages) ≡ report
+  whole =
+      joined s report 0 pages
+      ∙ ap (λ i. take (pages * body_size s) (drop i report)) (zero-mul (body_size s))
+      ∙ take_all (pages * body_size s) report (end_last s laws (length report))
 
-    full_part : (k : ℕ) → k + 1 < full + 1 → length (part_of s report k) ≡ body_size s
-    full_part k h = omega (arith, length_part s report k, full_page s laws (length report) full refl k (omega arith))
+  full : (k : ℕ) → k + 1 < pages → length (part_of s report k) ≡ body_size s
+  full k h = omega (arith, length_part s report k, full_page s laws (length report) k (omega arith))
 
-    some_part : 1 ≤ length report → 1 ≤ length (part_of s report (full + 1 - 1))
-    some_part h =
-        let e : full + 1 - 1 ≡ full = omega arith in
-        subst (λ i. 1 ≤ length (part_of s report i)) (sym e) (omega (arith, length_part s report full, start_below s laws (length report) full refl h, laws.most.0))
+  some : 1 ≤ length report → 1 ≤ length (part_of s report (pages - 1))
+  some h = omega (arith, length_part s report (pages - 1), start_below s laws (length report) h, laws.most.0)
 
 pub pages_hold : PagesHoldTheReport
-pages_hold s laws report = record { whole = whole_report s report laws; full = full_part s report laws; some = some_part s report laws }
+pages_hold s laws report = record { whole = whole s laws report; full = full s laws report; some = some s laws report }

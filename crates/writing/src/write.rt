@@ -3,10 +3,25 @@ ghost use Rattle.std.specs.Prelude.{◌≡◌, ℕ, ◌+◌, ◌-◌, ◌*◌, �
 ghost use Rattle.packet.specs.Writes.{put};
 ghost use Rattle.paging.specs.Schemes.{Within};
 ghost use Rattle.writing.specs.Cuts.{PagesHoldTheReport};
-ghost use Rattle.writing.specs.Writes.{body_size, written, report_sent};
+ghost use Rattle.writing.specs.Writes.{body_size, page_count, written, report_sent};
 
 use packet::write::{WriteFault, write};
+use paging::header::Header;
 use paging::scheme::Scheme;
+
+// The bytes of a report that a full page holds.
+fn body_size<S: Scheme>() -> usize
+    ensures { result ≡ body_size S.Scheme.model }
+{
+    255 - S::HEADER
+}
+
+// The pages of a report of so many bytes: an empty report has one, which is empty.
+fn page_count<S: Scheme>(n: usize) -> usize
+    ensures { result ≡ page_count S.Scheme.model n }
+{
+    n.div_ceil(body_size::<S>()).max(1)
+}
 
 // Full pages first, the rest in the last; only an empty report has an empty page. Answers the number of
 // bytes written. What stands behind them, and all that stands there where it refuses, is as before.
@@ -15,21 +30,19 @@ pub fn write_report<S: Scheme>(key: u32, report: &[u8], out: &mut [u8]) -> Resul
     ensures bytes { out.new ≡ put result (written S.Scheme.model key report.now) out.old }
 {
     let n = report.len();
-    let header = S::header_size();
-    let body = 255 - header;
-    if n > S::page_limit() as usize * body {
+    if n > S::PAGES as usize * body_size::<S>() {
         return Err(WriteFault::TooLong(n));
     }
-    if key as u64 >= S::key_limit() {
+    if key as u64 >= S::KEYS {
         return Err(WriteFault::KeyTooGreat);
     }
-    // A full page makes a packet of 261 bytes.
-    let full = n.saturating_sub(1) / body;
-    let size = full * 261 + header + (n - full * body) + 6;
+    // Beside its part of the report, a page has its header and the six bytes of its packet.
+    let pages = page_count::<S>(n);
+    let size = n + pages * (S::HEADER + 6);
     if out.len() < size {
         return Err(WriteFault::NoRoom(size));
     }
-    write_pages::<S>(key, full, report, out)
+    write_pages::<S>(key, pages, report, out)
 }
 
 // Joined, the pages' parts are the report; each before the last is full, and only an empty report has an
@@ -41,49 +54,46 @@ pub fn pages_hold_the_report() -> u8
 }
 
 // A page's data, its header first, at the start of the bytes; answers how many it is.
-fn lay<S: Scheme>(key: u32, page: u16, total: u16, part: &[u8], bytes: &mut [u8]) -> usize
-    requires within { Within S.Scheme.model (record { key = key; page = page; total = total }) }
+fn lay<S: Scheme>(header: Header, part: &[u8], bytes: &mut [u8]) -> usize
+    requires within { Within S.Scheme.model header }
     requires room { S.Scheme.model.header + length part.now ≤ length bytes.old }
     ensures size { result ≡ S.Scheme.model.header + length part.now }
-    ensures bytes { bytes.new ≡ (S.Scheme.model.write (record { key = key; page = page; total = total }) ++ part.now) ++ drop result bytes.old }
+    ensures bytes { bytes.new ≡ (S.Scheme.model.write header ++ part.now) ++ drop result bytes.old }
 {
-    let header = S::header_size();
-    let _ = S::write(key, page, total, bytes);
-    let end = header + part.len();
-    bytes[header..end].copy_from_slice(part);
+    let _ = S::write(header, bytes);
+    let end = S::HEADER + part.len();
+    bytes[S::HEADER..end].copy_from_slice(part);
     end
 }
 
-// The pages, with `full` full ones before the last. Each is laid in a page of its own, and its packet is
-// written to what is left of the destination.
+// So many pages. Each is laid in a page of its own, and its packet is written to what is left of the
+// destination.
 fn write_pages<S: Scheme>(
     key: u32,
-    full: usize,
+    pages: usize,
     report: &[u8],
     out: &mut [u8],
 ) -> Result<usize, WriteFault>
     requires key { key < S.Scheme.model.keys }
     requires size { length report.now ≤ S.Scheme.model.pages * body_size S.Scheme.model }
-    requires full { full ≡ (length report.now - 1) / body_size S.Scheme.model }
+    requires pages { pages ≡ page_count S.Scheme.model (length report.now) }
     requires room { length (written S.Scheme.model key report.now) ≤ length out.old }
     ensures answer { result ≡ Ok (length (written S.Scheme.model key report.now)) }
     ensures bytes { out.new ≡ put result (written S.Scheme.model key report.now) out.old }
 {
-    let body = 255 - S::header_size();
+    let body = body_size::<S>();
     let mut at = 0;
-    for index in 0..full + 1 {
+    for index in 0..pages {
         let from = index * body;
         let end = report.len().min(from + body);
-        let mut page = [0u8; 255];
-        let size = lay::<S>(
+        let mut page = [0; 255];
+        let header = Header {
             key,
-            index as u16 + 1,
-            full as u16 + 1,
-            &report[from..end],
-            &mut page,
-        );
-        let done = write(0, S::packet_type(), &page[0..size], &mut out[at..])?;
-        at += done;
+            page: index as u16 + 1,
+            total: pages as u16,
+        };
+        let size = lay::<S>(header, &report[from..end], &mut page);
+        at += write(0, S::TYPE, &page[..size], &mut out[at..])?;
     }
     Ok(at)
 }
