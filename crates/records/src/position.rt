@@ -3,10 +3,9 @@ ghost use Rattle.std.specs.Prelude.{◌≡◌, ℕ, ◌+◌, ◌≤◌, length};
 ghost use Rattle.records.specs.Faults.{reading_of};
 ghost use Rattle.records.specs.Positions.{position_reading, PositionRead, PositionAnswer};
 
-use std::cmp::Ordering;
-
 use crate::fault::RecordFault;
 use crate::numbers::{u32_at, u64_at};
+use std::cmp::Ordering;
 
 // The bytes before the satellites, the place of their number N, and its greatest value.
 const HEAD: usize = 78;
