@@ -123,10 +123,10 @@ abbrev pub PartsWhole : Result SatelliteRead RecordFault → Type 0
 PartsWhole (Ok s) = HasSize 21 s.l1 × HasSize 13 s.l2 × HasSize 3 s.enhanced
 PartsWhole (Err f) = Unit {0}
 
--- what is split off the front of the bytes: so many, if that part is there and the bytes are that many, and what stands behind them
-abbrev pub SplitIf : Bool → List ℕ → ℕ → Option (Option (Bor (List ℕ)) × Bor (List ℕ)) → Type 0
-SplitIf present bytes size None = (present ≡ true) × (length bytes < size)
-SplitIf present bytes size (Some p) = (cond present size 0 ≤ length bytes) × (option_map (λ r. r.now) p.0 ≡ part_if present 0 size bytes) × (p.1.now ≡ drop (cond present size 0) bytes)
+-- the answer to a reading of a part: the part, if it is there, and the place behind it, or that the body ends too soon
+abbrev pub PartIf : Bool → List ℕ → ℕ → ℕ → Option (Option (Bor (List ℕ)) × ℕ) → Type 0
+PartIf present body at size (Some p) = (option_map (λ r. r.now) p.0 ≡ part_if present at size body) × (p.1 ≡ at + cond present size 0) × (p.1 ≤ length body)
+PartIf present body at size None = length body < at + cond present size 0
 
 -- the answer to a reading at a place: the satellite and the place behind it, or that the body ends too soon
 abbrev pub ReadAt : Bool → List ℕ → ℕ → Option (Satellite × ℕ) → Type 0

@@ -2,7 +2,7 @@
 ghost use Rattle.std.specs.Prelude.{◌≡◌, ℕ, ◌+◌, ◌≤◌, Bool, true, cond, length};
 ghost use Rattle.std.specs.Option.{option_map};
 ghost use Rattle.records.specs.Faults.{reading_of};
-ghost use Rattle.records.specs.Surveys.{head_read, SplitIf, ReadAt, survey_reading};
+ghost use Rattle.records.specs.Surveys.{head_read, PartIf, ReadAt, survey_reading};
 
 use crate::fault::RecordFault;
 use crate::numbers::{i16_at, u64_at};
@@ -76,36 +76,42 @@ pub fn check(body: &[u8], flags: u8) -> Result<(), RecordFault>
     Ok(())
 }
 
-// A part of so many bytes, if it is there, and the bytes behind it; nothing, if they are too few.
-fn split_if(present: bool, bytes: &[u8], size: usize) -> Option<(Option<&[u8]>, &[u8])>
-    ensures { SplitIf present bytes.now size result }
+// A part of so many bytes, if it is there, and the place behind it; nothing, if the body ends too soon.
+// (`body.get(at..at + size)` makes the check of a survey slower by a third.)
+fn part_if(present: bool, body: &[u8], at: usize, size: usize) -> Option<(Option<&[u8]>, usize)>
+    requires { at ≤ length body.now }
+    ensures { PartIf present body.now at size result }
 {
     if !present {
-        return Some((None, bytes));
+        return Some((None, at));
     }
-    let (part, rest) = bytes.split_at_checked(size)?;
-    Some((Some(part), rest))
+    if body.len() - at < size {
+        return None;
+    }
+    Some((Some(&body[at..at + size]), at + size))
 }
 
 // The satellite that begins at a place, and the place behind it; nothing, if the body ends too soon.
 fn read_satellite(enhanced: bool, body: &[u8], at: usize) -> Option<(Satellite<'_>, usize)>
     ensures { ReadAt enhanced body.now at result }
 {
-    let (fixed, rest) = body.get(at..)?.split_at_checked(FIXED_PART)?;
-    let flags1 = fixed[1];
-    let (l1, rest) = split_if(flags1 & HAS_L1 != 0, rest, L1_PART)?;
-    let (l2, rest) = split_if(flags1 & HAS_L2 != 0, rest, L2_PART)?;
-    let (enhanced, rest) = split_if(enhanced, rest, ENHANCED_PART)?;
+    if body.len().saturating_sub(at) < FIXED_PART {
+        return None;
+    }
+    let flags1 = body[at + 1];
+    let (l1, behind) = part_if(flags1 & HAS_L1 != 0, body, at + FIXED_PART, L1_PART)?;
+    let (l2, behind) = part_if(flags1 & HAS_L2 != 0, body, behind, L2_PART)?;
+    let (enhanced, behind) = part_if(enhanced, body, behind, ENHANCED_PART)?;
     let satellite = Satellite {
         place: at,
-        prn: fixed[0],
+        prn: body[at],
         flags1,
-        flags2: fixed[2],
-        elevation: i16_at(fixed, 3),
-        azimuth: i16_at(fixed, 5),
+        flags2: body[at + 2],
+        elevation: i16_at(body, at + 3),
+        azimuth: i16_at(body, at + 5),
         l1,
         l2,
         enhanced,
     };
-    Some((satellite, body.len() - rest.len()))
+    Some((satellite, behind))
 }
