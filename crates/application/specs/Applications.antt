@@ -67,6 +67,13 @@ record_named kind place bytes =
     (cond (kind == 80) (bei_dou place bytes)
     (cond (kind == 95) (qzss place bytes) (unknown kind place bytes)))
 
+-- how many states a record of its type has
+abbrev pub read_count : RecordRead → Option ℕ
+read_count (galileo place states) = Some 52
+read_count (bei_dou place states) = Some 30
+read_count (qzss place states) = Some 5
+read_count (unknown kind place bytes) = None
+
 -- the record that begins at a place
 abbrev pub record_at : List ℕ → ℕ → RecordRead
 record_at body at = record_named (kind_at body at) at (bytes_at body at)

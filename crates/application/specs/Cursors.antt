@@ -1,5 +1,6 @@
 -- The cursor over an application file's records: what it will still give.
-use Rattle.std.specs.Prelude.{◌≡◌, ℕ, cond, not, List, [], ◌∷◌, length, Some, None, Ok, Err, Option, Result, ◌==◌, nat_lt, slice_index}
+use Rattle.std.specs.Prelude.{ℕ, cond, not, List, length, Ok, Err, Option, Result, ◌==◌, nat_lt, slice_index}
+use Rattle.std.specs.Iterator.{YieldsFirstBy}
 use Rattle.records.specs.declared.fault.RecordFault.{RecordFault}
 use Rattle.records.specs.declared.fault.RecordFault.TheVariants.{EndsTooSoon, WrongVersion}
 use Rattle.application.specs.declared.Record.{Record}
@@ -12,8 +13,7 @@ still c = records_from (length c.body.now) c.body.now c.at
 
 -- one call: the first of what was still to come is given, and the rest is still to come
 abbrev pub Gave : Records → Option (Result Record RecordFault) → Records → Type 0
-Gave before None after = (still before ≡ []) × (still after ≡ [])
-Gave before (Some r) after = still before ≡ answer_read r ∷ still after
+Gave = YieldsFirstBy answer_read still
 
 -- a new cursor by what it will give
 abbrev pub new_gives : Result Records RecordFault → Result (List (Result RecordRead RecordFault)) RecordFault

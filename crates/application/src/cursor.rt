@@ -1,7 +1,7 @@
 // The cursor over an application file's records.
-ghost use Rattle.std.specs.Prelude.{◌≡◌, length};
+ghost use Rattle.std.specs.Prelude.{◌≡◌};
 ghost use Rattle.application.specs.Cursors.{still, new_gives, started, Gave};
-ghost use Rattle.std.specs.Iterator.{at_most};
+ghost use Rattle.std.specs.Iterator.{item_count};
 
 use crate::{FRONT_SIZE, Record, VERSION, read_record};
 use records::fault::RecordFault;
@@ -29,37 +29,27 @@ impl<'a> Records<'a> {
             at: FRONT_SIZE,
         })
     }
+}
 
-    // The next record, or the fault that ends the file; nothing behind its end.
-    pub fn advance(&mut self) -> Option<Result<Record<'a>, RecordFault>>
-        ensures { Gave self.old result self.new }
-    {
+// Gives the records, and last the fault that ends the file, if one does.
+impl<'a> Iterator for Records<'a> {
+    type Item = Result<Record<'a>, RecordFault>;
+
+    ghost next_gives = { Gave };
+
+    ghost remaining = { item_count still };
+
+    fn next(&mut self) -> Option<Result<Record<'a>, RecordFault>> {
         let body = self.body;
         let at = self.at;
         if at >= body.len() {
             return None;
         }
         let found = read_record(body, at);
-        match found {
-            Ok(_) => {
-                self.at = at + 2 + body[at + 1] as usize;
-            }
-            Err(_) => {
-                self.at = body.len();
-            }
-        }
+        self.at = match found {
+            Ok(_) => at + 2 + body[at + 1] as usize,
+            Err(_) => body.len(),
+        };
         Some(found)
-    }
-}
-
-impl<'a> Iterator for Records<'a> {
-    type Item = Result<Record<'a>, RecordFault>;
-
-    ghost next_gives = { λ s r t. Gave s r t };
-
-    ghost remaining = { λ s. at_most (length (still s)) };
-
-    fn next(&mut self) -> Option<Result<Record<'a>, RecordFault>> {
-        self.advance()
     }
 }

@@ -4,7 +4,7 @@
 ghost use Rattle.std.specs.Prelude.{◌≡◌, ℕ, ◌+◌, ◌≤◌, Bool, true, length};
 ghost use Rattle.std.specs.List.{prefix_len};
 ghost use Rattle.records.specs.Faults.{reading_of};
-ghost use Rattle.application.specs.Applications.{state_count, is_state, lawful_front, record_named, record_read, ReadAt, application_reading};
+ghost use Rattle.application.specs.Applications.{read_count, is_state, record_named, record_read, ReadAt, application_reading};
 
 use records::fault::RecordFault;
 
@@ -34,7 +34,7 @@ const QZSS_STATES: usize = 5;
 const LAST_STATE: u8 = 2;
 
 // A record: `place` is that of its type in the body, and its bytes are a part of the body.
-#[derive(Clone, Copy)]
+#[derive(Clone, Copy, Debug, PartialEq, Eq)]
 pub enum Record<'a> {
     Galileo {
         place: usize,
@@ -59,48 +59,44 @@ pub enum Record<'a> {
 pub fn check(body: &[u8]) -> Result<(), RecordFault>
     ensures { reading_of result ≡ application_reading body.now }
 {
-    let mut records = Records::new(body)?;
-    while let Some(found) = records.advance() {
-        let _ = found?;
+    for found in Records::new(body)? {
+        found?;
     }
     Ok(())
 }
 
-// How many states a record of a known type has.
-fn state_count(kind: u8) -> Option<usize>
-    ensures { result ≡ state_count kind }
-{
-    if kind == GALILEO {
-        Some(GALILEO_STATES)
-    } else if kind == BEIDOU {
-        Some(BEIDOU_STATES)
-    } else if kind == QZSS {
-        Some(QZSS_STATES)
-    } else {
-        None
+impl<'a> Record<'a> {
+    // The record of a type.
+    fn new(kind: u8, place: usize, bytes: &'a [u8]) -> Record<'a>
+        ensures { record_read result ≡ record_named kind place bytes.now }
+    {
+        match kind {
+            GALILEO => Record::Galileo {
+                place,
+                states: bytes,
+            },
+            BEIDOU => Record::BeiDou {
+                place,
+                states: bytes,
+            },
+            QZSS => Record::Qzss {
+                place,
+                states: bytes,
+            },
+            _ => Record::Unknown { kind, place, bytes },
+        }
     }
-}
 
-fn named(kind: u8, place: usize, bytes: &[u8]) -> Record<'_>
-    ensures { record_read result ≡ record_named kind place bytes.now }
-{
-    if kind == GALILEO {
-        Record::Galileo {
-            place,
-            states: bytes,
+    // How many states a record of its type has, where the type is known.
+    fn state_count(&self) -> Option<usize>
+        ensures { result ≡ read_count (record_read self.now) }
+    {
+        match self {
+            Record::Galileo { .. } => Some(GALILEO_STATES),
+            Record::BeiDou { .. } => Some(BEIDOU_STATES),
+            Record::Qzss { .. } => Some(QZSS_STATES),
+            Record::Unknown { .. } => None,
         }
-    } else if kind == BEIDOU {
-        Record::BeiDou {
-            place,
-            states: bytes,
-        }
-    } else if kind == QZSS {
-        Record::Qzss {
-            place,
-            states: bytes,
-        }
-    } else {
-        Record::Unknown { kind, place, bytes }
     }
 }
 
@@ -108,36 +104,29 @@ fn named(kind: u8, place: usize, bytes: &[u8]) -> Record<'_>
 fn states_in_front(bytes: &[u8]) -> usize
     ensures { result ≡ prefix_len is_state bytes.now }
 {
-    let mut at = 0;
-    while at < bytes.len() && bytes[at] <= LAST_STATE {
-        at += 1;
-    }
-    at
+    bytes.iter().take_while(|b| **b <= LAST_STATE).count()
 }
 
 // The record that begins at a place.
 fn read_record(body: &[u8], at: usize) -> Result<Record<'_>, RecordFault>
     ensures { ReadAt body.now at result }
 {
-    let room = body.len().saturating_sub(at);
-    if room < 2 {
+    let Some([kind, size, rest @ ..]) = body.get(at..) else {
         return Err(RecordFault::EndsTooSoon(body.len()));
-    }
-    let kind = body[at];
-    let size = body[at + 1] as usize;
-    if room < 2 + size {
-        return Err(RecordFault::EndsTooSoon(body.len()));
-    }
-    let bytes = &body[at + 2..at + 2 + size];
-    let Some(count) = state_count(kind) else {
-        return Ok(named(kind, at, bytes));
     };
-    if size != count {
+    let Some(bytes) = rest.get(..*size as usize) else {
+        return Err(RecordFault::EndsTooSoon(body.len()));
+    };
+    let record = Record::new(*kind, at, bytes);
+    let Some(count) = record.state_count() else {
+        return Ok(record);
+    };
+    if bytes.len() != count {
         return Err(RecordFault::WrongRecordLength(at + 1));
     }
     let front = states_in_front(bytes);
-    if front < size {
+    if front < count {
         return Err(RecordFault::StateAboveTwo(at + 2 + front));
     }
-    Ok(named(kind, at, bytes))
+    Ok(record)
 }

@@ -1,6 +1,7 @@
 -- A survey: its head, its satellites one after the other, and its reading.
-use Rattle.std.specs.Prelude.{◌≡◌, ℕ, zero, suc, ◌+◌, Bool, true, false, cond, not, List, [], ◌∷◌, length, take, drop, ℤ, Some, None, Ok, Err, Option, Result, ◌==◌, bit_and, nat_lt, slice_index}
+use Rattle.std.specs.Prelude.{◌≡◌, ℕ, zero, suc, ◌+◌, ◌<◌, ◌≤◌, Bool, true, false, cond, not, List, [], ◌∷◌, length, take, drop, ℤ, Some, None, Ok, Err, Option, Result, ◌==◌, bit_and, nat_lt, slice_index}
 use Rattle.std.specs.Option.{option_map}
+use Rattle.std.specs.Borrow.{Bor}
 use Rattle.refusal.specs.declared.Refusal.{Refusal}
 use Rattle.records.specs.declared.fault.RecordFault.{RecordFault}
 use Rattle.records.specs.declared.fault.RecordFault.TheVariants.{EndsTooSoon, BytesLeftOver}
@@ -122,7 +123,12 @@ abbrev pub PartsWhole : Result SatelliteRead RecordFault → Type 0
 PartsWhole (Ok s) = HasSize 21 s.l1 × HasSize 13 s.l2 × HasSize 3 s.enhanced
 PartsWhole (Err f) = Unit {0}
 
--- the answer to a reading at a place
-abbrev pub ReadAt : Bool → List ℕ → ℕ → Result Satellite RecordFault → Type 0
-ReadAt enhanced body at (Ok s) = (is_whole enhanced body at ≡ true) × (satellite_read s ≡ satellite_at enhanced body at)
-ReadAt enhanced body at (Err f) = (is_whole enhanced body at ≡ false) × (f ≡ EndsTooSoon (length body))
+-- the answer to a reading of a part: the part, if it is there, and the place behind it, or that the body ends too soon
+abbrev pub PartIf : Bool → List ℕ → ℕ → ℕ → Option (Option (Bor (List ℕ)) × ℕ) → Type 0
+PartIf present body at size (Some p) = (option_map (λ r. r.now) p.0 ≡ part_if present at size body) × (p.1 ≡ at + cond present size 0) × (p.1 ≤ length body)
+PartIf present body at size None = length body < at + cond present size 0
+
+-- the answer to a reading at a place: the satellite and the place behind it, or that the body ends too soon
+abbrev pub ReadAt : Bool → List ℕ → ℕ → Option (Satellite × ℕ) → Type 0
+ReadAt enhanced body at (Some p) = (is_whole enhanced body at ≡ true) × (satellite_read p.0 ≡ satellite_at enhanced body at) × (p.1 ≡ at + size_at enhanced body at)
+ReadAt enhanced body at None = is_whole enhanced body at ≡ false

@@ -2,32 +2,25 @@
 ghost use Rattle.std.specs.Prelude.{◌≡◌, ℕ, ◌+◌, ◌≤◌, length};
 ghost use Rattle.records.specs.Numbers.{be32, be64, signed16};
 
+use std::array;
+
 pub(crate) fn i16_at(body: &[u8], at: usize) -> i16
     requires { at + 2 ≤ length body.now }
     ensures { result ≡ signed16 body.now at }
 {
-    i16::from_be_bytes([body[at], body[at + 1]])
+    i16::from_be_bytes(array::from_fn(|k| body[at + k]))
 }
 
 pub(crate) fn u32_at(body: &[u8], at: usize) -> u32
     requires { at + 4 ≤ length body.now }
     ensures { result ≡ be32 body.now at }
 {
-    u32::from_be_bytes([body[at], body[at + 1], body[at + 2], body[at + 3]])
+    u32::from_be_bytes(array::from_fn(|k| body[at + k]))
 }
 
 pub(crate) fn u64_at(body: &[u8], at: usize) -> u64
     requires { at + 8 ≤ length body.now }
     ensures { result ≡ be64 body.now at }
 {
-    u64::from_be_bytes([
-        body[at],
-        body[at + 1],
-        body[at + 2],
-        body[at + 3],
-        body[at + 4],
-        body[at + 5],
-        body[at + 6],
-        body[at + 7],
-    ])
+    u64::from_be_bytes(array::from_fn(|k| body[at + k]))
 }

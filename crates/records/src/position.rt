@@ -5,6 +5,7 @@ ghost use Rattle.records.specs.Positions.{position_reading, PositionRead, Positi
 
 use crate::fault::RecordFault;
 use crate::numbers::{u32_at, u64_at};
+use std::cmp::Ordering;
 
 // The bytes before the satellites, the place of their number N, and its greatest value.
 const HEAD: usize = 78;
@@ -14,7 +15,7 @@ const COUNT: usize = 77;
 const MOST: usize = 12;
 
 // The fields of a position, each DOUBLE as its bits; `satellites` has two bytes for each.
-#[derive(Clone, Copy)]
+#[derive(Clone, Copy, Debug, PartialEq, Eq)]
 pub struct Position<'a> {
     pub latitude: u64,
     pub longitude: u64,
@@ -35,21 +36,19 @@ pub struct Position<'a> {
 pub fn check(body: &[u8]) -> Result<(), RecordFault>
     ensures { reading_of result ≡ position_reading body.now }
 {
-    if body.len() < HEAD {
+    let Some(count) = body.get(COUNT) else {
         return Err(RecordFault::EndsTooSoon(body.len()));
-    }
-    let count = body[COUNT] as usize;
+    };
+    let count = *count as usize;
     if count > MOST {
         return Err(RecordFault::TooManySatellites(COUNT));
     }
     let size = HEAD + 2 * count;
-    if body.len() < size {
-        return Err(RecordFault::EndsTooSoon(body.len()));
+    match body.len().cmp(&size) {
+        Ordering::Less => Err(RecordFault::EndsTooSoon(body.len())),
+        Ordering::Equal => Ok(()),
+        Ordering::Greater => Err(RecordFault::BytesLeftOver(size)),
     }
-    if body.len() > size {
-        return Err(RecordFault::BytesLeftOver(size));
-    }
-    Ok(())
 }
 
 // The fields of bytes that are long enough.

@@ -2,7 +2,7 @@
 ghost use Rattle.std.specs.Prelude.{◌≡◌, ℕ, ◌+◌, ◌≤◌, Bool, true, cond, length};
 ghost use Rattle.std.specs.Option.{option_map};
 ghost use Rattle.records.specs.Faults.{reading_of};
-ghost use Rattle.records.specs.Surveys.{head_read, has_l1, has_l2, l1_size, l2_size, satellite_size, part_if, ReadAt, survey_reading};
+ghost use Rattle.records.specs.Surveys.{head_read, PartIf, ReadAt, survey_reading};
 
 use crate::fault::RecordFault;
 use crate::numbers::{i16_at, u64_at};
@@ -16,6 +16,11 @@ const HEAD_SIZE: usize = 17;
 
 const COUNT_PLACE: usize = 16;
 
+// The bits of a satellite's flags 1 that say that it has an L1 part and an L2 part.
+const HAS_L1: u8 = 0x40;
+
+const HAS_L2: u8 = 1;
+
 // The bytes of a satellite that are always there, and those of its L1, L2 and enhanced parts.
 const FIXED_PART: usize = 7;
 
@@ -26,7 +31,7 @@ const L2_PART: usize = 13;
 const ENHANCED_PART: usize = 3;
 
 // What stands before the satellites, each DOUBLE as its bits.
-#[derive(Clone, Copy)]
+#[derive(Clone, Copy, Debug, PartialEq, Eq)]
 pub struct SurveyHead {
     pub receive_time: u64,
     pub clock_offset: u64,
@@ -34,7 +39,7 @@ pub struct SurveyHead {
 }
 
 // A satellite: `place` is that of its first byte in the body, and its parts are parts of the body.
-#[derive(Clone, Copy)]
+#[derive(Clone, Copy, Debug, PartialEq, Eq)]
 pub struct Satellite<'a> {
     pub place: usize,
     pub prn: u8,
@@ -65,79 +70,48 @@ pub fn head(body: &[u8]) -> Result<SurveyHead, RecordFault>
 pub fn check(body: &[u8], flags: u8) -> Result<(), RecordFault>
     ensures { reading_of result ≡ survey_reading flags body.now }
 {
-    let mut satellites = Satellites::new(body, flags)?;
-    while let Some(found) = satellites.advance() {
-        let _ = found?;
+    for found in Satellites::new(body, flags)? {
+        found?;
     }
     Ok(())
 }
 
-fn has_l1(flags1: u8) -> bool
-    ensures { result ≡ has_l1 flags1 }
+// A part of so many bytes, if it is there, and the place behind it; nothing, if the body ends too soon.
+// (`body.get(at..at + size)` makes the check of a survey slower by a third.)
+fn part_if(present: bool, body: &[u8], at: usize, size: usize) -> Option<(Option<&[u8]>, usize)>
+    requires { at ≤ length body.now }
+    ensures { PartIf present body.now at size result }
 {
-    flags1 & 0x40 != 0
-}
-
-fn has_l2(flags1: u8) -> bool
-    ensures { result ≡ has_l2 flags1 }
-{
-    flags1 & 1 != 0
-}
-
-fn l1_size(flags1: u8) -> usize
-    ensures { result ≡ l1_size flags1 }
-{
-    if has_l1(flags1) { L1_PART } else { 0 }
-}
-
-fn l2_size(flags1: u8) -> usize
-    ensures { result ≡ l2_size flags1 }
-{
-    if has_l2(flags1) { L2_PART } else { 0 }
-}
-
-fn satellite_size(enhanced: bool, flags1: u8) -> usize
-    ensures { result ≡ satellite_size enhanced flags1 }
-{
-    let more = if enhanced { ENHANCED_PART } else { 0 };
-    FIXED_PART + l1_size(flags1) + l2_size(flags1) + more
-}
-
-fn part_if(present: bool, body: &[u8], at: usize, size: usize) -> Option<&[u8]>
-    requires { present ≡ true → at + size ≤ length body.now }
-    ensures { option_map (λ x. x.now) result ≡ part_if present at size body.now }
-{
-    if present {
-        Some(&body[at..at + size])
-    } else {
-        None
+    if !present {
+        return Some((None, at));
     }
+    if body.len() - at < size {
+        return None;
+    }
+    Some((Some(&body[at..at + size]), at + size))
 }
 
-// The satellite that begins at a place.
-fn read_satellite(enhanced: bool, body: &[u8], at: usize) -> Result<Satellite<'_>, RecordFault>
+// The satellite that begins at a place, and the place behind it; nothing, if the body ends too soon.
+fn read_satellite(enhanced: bool, body: &[u8], at: usize) -> Option<(Satellite<'_>, usize)>
     ensures { ReadAt enhanced body.now at result }
 {
-    let room = body.len().saturating_sub(at);
-    if room < FIXED_PART {
-        return Err(RecordFault::EndsTooSoon(body.len()));
+    if body.len().saturating_sub(at) < FIXED_PART {
+        return None;
     }
     let flags1 = body[at + 1];
-    if room < satellite_size(enhanced, flags1) {
-        return Err(RecordFault::EndsTooSoon(body.len()));
-    }
-    let l1_at = at + FIXED_PART;
-    let l2_at = l1_at + l1_size(flags1);
-    let enhanced_at = l2_at + l2_size(flags1);
-    Ok(Satellite {
+    let (l1, behind) = part_if(flags1 & HAS_L1 != 0, body, at + FIXED_PART, L1_PART)?;
+    let (l2, behind) = part_if(flags1 & HAS_L2 != 0, body, behind, L2_PART)?;
+    let (enhanced, behind) = part_if(enhanced, body, behind, ENHANCED_PART)?;
+    let satellite = Satellite {
         place: at,
         prn: body[at],
         flags1,
         flags2: body[at + 2],
         elevation: i16_at(body, at + 3),
         azimuth: i16_at(body, at + 5),
-        l1: part_if(has_l1(flags1), body, l1_at, L1_PART),
-        l2: part_if(has_l2(flags1), body, l2_at, L2_PART),
-        enhanced: part_if(enhanced, body, enhanced_at, ENHANCED_PART),
-    })
+        l1,
+        l2,
+        enhanced,
+    };
+    Some((satellite, behind))
 }

@@ -1,11 +1,8 @@
-use Rattle.std.proofs.Common.{◌≡◌, length}
+use Rattle.std.proofs.Common.{◌≡◌}
 use Rattle.records.specs.Faults.{first_fault}
 use Rattle.application.specs.Applications.{application_reading}
 use Rattle.application.specs.Cursors.{still}
 use Rattle.application.proofs.check.Given as goal
 
 abbrev pub invariant-loop-found : goal.invariant-loop-found
-invariant-loop-found l = first_fault (still l.records) ≡ application_reading l.body
-
-abbrev pub decreases-loop-found : goal.decreases-loop-found
-decreases-loop-found l = length (still l.records)
+invariant-loop-found l = first_fault (still l.found-iterator) ≡ application_reading l.body

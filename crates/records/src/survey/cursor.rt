@@ -1,10 +1,10 @@
 // The cursor over a survey's satellites.
-ghost use Rattle.std.specs.Prelude.{◌≡◌, length};
+ghost use Rattle.std.specs.Prelude.{◌≡◌};
 ghost use Rattle.records.specs.SurveyCursors.{still, new_gives, started, Gave};
-ghost use Rattle.std.specs.Iterator.{at_most};
+ghost use Rattle.std.specs.Iterator.{item_count};
 
 use crate::fault::RecordFault;
-use crate::survey::{COUNT_PLACE, HEAD_SIZE, Satellite, read_satellite, satellite_size};
+use crate::survey::{COUNT_PLACE, HEAD_SIZE, Satellite, read_satellite};
 
 // `left` satellites are to come, the next one from `at` on; behind a fault none is, and `at` is the end.
 #[derive(Drop)]
@@ -30,11 +30,17 @@ impl<'a> Satellites<'a> {
             at: HEAD_SIZE,
         })
     }
+}
 
-    // The next satellite, or the fault that ends the survey; nothing behind its end.
-    pub fn advance(&mut self) -> Option<Result<Satellite<'a>, RecordFault>>
-        ensures { Gave self.old result self.new }
-    {
+// Gives the satellites, and last the fault that ends the survey, if one does.
+impl<'a> Iterator for Satellites<'a> {
+    type Item = Result<Satellite<'a>, RecordFault>;
+
+    ghost next_gives = { λ s r t. Gave s r t };
+
+    ghost remaining = { item_count still };
+
+    fn next(&mut self) -> Option<Result<Satellite<'a>, RecordFault>> {
         let at = self.at;
         let end = self.body.len();
         if self.left == 0 {
@@ -44,29 +50,17 @@ impl<'a> Satellites<'a> {
             }
             return None;
         }
-        let found = read_satellite(self.enhanced, self.body, at);
-        match found {
-            Ok(s) => {
+        match read_satellite(self.enhanced, self.body, at) {
+            Some((satellite, behind)) => {
                 self.left -= 1;
-                self.at = at + satellite_size(self.enhanced, s.flags1);
+                self.at = behind;
+                Some(Ok(satellite))
             }
-            Err(_) => {
+            None => {
                 self.left = 0;
                 self.at = end;
+                Some(Err(RecordFault::EndsTooSoon(end)))
             }
         }
-        Some(found)
-    }
-}
-
-impl<'a> Iterator for Satellites<'a> {
-    type Item = Result<Satellite<'a>, RecordFault>;
-
-    ghost next_gives = { λ s r t. Gave s r t };
-
-    ghost remaining = { λ s. at_most (length (still s)) };
-
-    fn next(&mut self) -> Option<Result<Satellite<'a>, RecordFault>> {
-        self.advance()
     }
 }
