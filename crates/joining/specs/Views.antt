@@ -1,19 +1,15 @@
--- What a store and a collector hold, and what a collector's answer stands for.
-use Rattle.std.specs.Prelude.{◌≡◌, ℕ, cond, List, [], take, Ok, Err, Result, ◌==◌}
+-- What a collector holds, and what a collector's answer stands for.
+use Rattle.std.specs.Prelude.{◌≡◌, ℕ, cond, List, [], Ok, Err, Result, ◌==◌}
 use Rattle.paging.specs.declared.fault.PageFault.{PageFault}
-use Rattle.joining.specs.declared.store.Store.{Store}
 use Rattle.joining.specs.declared.collector.Collector.{Collector}
 use Rattle.joining.specs.declared.collector.Step.{Step}
 use Rattle.joining.specs.declared.collector.Step.TheVariants.{More, Whole}
 use Rattle.paging.specs.Headers.{page_refusal}
 use Rattle.joining.specs.Joining.{Held, Joined, more, whole, refuses}
 
-abbrev pub bytes_of : Store → List ℕ
-bytes_of s = take s.len s.bytes
-
 -- pages are held where the count is not 0; else the store's bytes are of no page
 abbrev pub held_of : {X : Type 0} → Collector X → Held
-held_of c = record { key = c.key; total = c.total; count = c.count; joined = cond (c.count == 0) [] (bytes_of c.store) }
+held_of c = record { key = c.key; total = c.total; count = c.count; joined = cond (c.count == 0) [] c.store }
 
 -- what a collector answered, with the bytes in its store after it
 abbrev pub joined_of : Result Step PageFault → List ℕ → Joined

@@ -1,7 +1,7 @@
 // The pages held of one scheme, written once for every scheme.
 ghost use Rattle.std.specs.Prelude.{◌≡◌, ℕ, ◌+◌, ◌-◌, ◌<◌, ◌≤◌, [], ◌++◌, length, ◌≢◌};
 ghost use Rattle.joining.specs.Joining.{Collected, collected, placed, kept, next_page, no_pages};
-ghost use Rattle.joining.specs.Views.{held_of, bytes_of, joined_of, Emptied};
+ghost use Rattle.joining.specs.Views.{held_of, joined_of, Emptied};
 
 use crate::store::Store;
 use paging::fault::PageFault;
@@ -40,7 +40,7 @@ impl<S: Scheme> Collector<S> {
     // Drops the pages held.
     pub fn drop_pages(&mut self)
         ensures held { held_of self.new ≡ no_pages }
-        ensures bytes { bytes_of self.new.store ≡ [] }
+        ensures bytes { self.new.store ≡ [] }
     {
         self.store.clear();
         self.close();
@@ -49,7 +49,7 @@ impl<S: Scheme> Collector<S> {
     // No page is held any more; the bytes stay in the store.
     fn close(&mut self)
         ensures held { held_of self.new ≡ no_pages }
-        ensures bytes { bytes_of self.new.store ≡ bytes_of self.old.store }
+        ensures bytes { self.new.store ≡ self.old.store }
     {
         self.key = 0;
         self.total = 0;
@@ -69,10 +69,10 @@ impl<S: Scheme> Collector<S> {
     // Adds a body to the bytes in the store.
     fn keep(&mut self, header: Header, body: &[u8]) -> Result<Step, PageFault>
         requires { header.page ≢ 0 }
-        ensures page { record { joined = joined_of result (bytes_of self.new.store); held = held_of self.new } ≡ kept header (bytes_of self.old.store ++ body.now) }
-        ensures refused { Emptied result (bytes_of self.new.store) }
+        ensures page { record { joined = joined_of result self.new.store; held = held_of self.new } ≡ kept header (self.old.store ++ body.now) }
+        ensures refused { Emptied result self.new.store }
     {
-        if !self.store.add(body) {
+        if self.store.add(body).is_none() {
             self.drop_pages();
             return Err(PageFault::OutOfTurn(header.page as usize));
         }
@@ -89,8 +89,8 @@ impl<S: Scheme> Collector<S> {
 
     // Puts a body at the place that its header names.
     fn place(&mut self, header: Header, body: &[u8]) -> Result<Step, PageFault>
-        ensures page { record { joined = joined_of result (bytes_of self.new.store); held = held_of self.new } ≡ placed header body.now (held_of self.old) }
-        ensures refused { Emptied result (bytes_of self.new.store) }
+        ensures page { record { joined = joined_of result self.new.store; held = held_of self.new } ≡ placed header body.now (held_of self.old) }
+        ensures refused { Emptied result self.new.store }
     {
         if header.page == 1 {
             self.drop_pages();
@@ -105,8 +105,8 @@ impl<S: Scheme> Collector<S> {
 
     // Joins a page to those held. A whole report stays in the store until the next page comes.
     pub fn add(&mut self, data: &[u8]) -> Result<Step, PageFault>
-        ensures page { record { joined = joined_of result (bytes_of self.new.store); held = held_of self.new } ≡ collected S.Scheme.model «data».now (held_of self.old) }
-        ensures refused { Emptied result (bytes_of self.new.store) }
+        ensures page { record { joined = joined_of result self.new.store; held = held_of self.new } ≡ collected S.Scheme.model «data».now (held_of self.old) }
+        ensures refused { Emptied result self.new.store }
     {
         match S::read(data) {
             Ok((key, page, total)) => self.place(Header { key, page, total }, &data[S::HEADER..]),
@@ -119,7 +119,7 @@ impl<S: Scheme> Collector<S> {
 
     // The bytes in the store: behind a whole report that report, behind a refused page none.
     pub fn report(&self) -> &[u8]
-        ensures value { result.now ≡ bytes_of self.now.store }
+        ensures value { result.now ≡ self.now.store }
         ensures len { length result.now ≤ 8064 }
     {
         self.store.bytes()

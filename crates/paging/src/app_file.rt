@@ -53,13 +53,10 @@ impl Scheme for AppFile {
     }
 
     fn write(header: Header, out: &mut [u8]) -> bool {
+        if !Self::fits(header, out.len()) {
+            return false;
+        }
         let Header { key, page, total } = header;
-        if key as u64 >= Self::KEYS || page == 0 || total < page || total > Self::PAGES {
-            return false;
-        }
-        if out.len() < Self::HEADER {
-            return false;
-        }
         out[0] = key as u8;
         out[1] = (page - 1) as u8;
         out[2] = (total - 1) as u8;

@@ -54,13 +54,10 @@ impl Scheme for RawData {
     }
 
     fn write(header: Header, out: &mut [u8]) -> bool {
+        if !Self::fits(header, out.len()) {
+            return false;
+        }
         let Header { key, page, total } = header;
-        if key as u64 >= Self::KEYS || page == 0 || total < page || total > Self::PAGES {
-            return false;
-        }
-        if out.len() < Self::HEADER {
-            return false;
-        }
         out[0] = (key / 65536) as u8;
         out[1] = (page * 16 + total) as u8;
         out[2] = (key / 256 % 256) as u8;

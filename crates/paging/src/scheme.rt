@@ -32,8 +32,20 @@ pub trait Scheme {
     fn read(data: &[u8]) -> Result<(u32, u16, u16), PageFault>
         ensures { result ≡ read_by model «data».now };
 
-    // Puts the header at the start of the bytes and answers true, where its numbers are within the
-    // scheme's limits and there is room for it. Else nothing is written.
+    // Whether a header's numbers are within the scheme's limits, and the header has room in so many bytes.
+    fn fits(header: Header, room: usize) -> bool
+        ensures { result ≡ header_fits model header room }
+    {
+        let Header { key, page, total } = header;
+        (key as u64) < Self::KEYS
+            && 1 <= page
+            && page <= total
+            && total <= Self::PAGES
+            && Self::HEADER <= room
+    }
+
+    // Puts the header at the start of the bytes where it fits, and says whether it did: yes or no is all that
+    // there is to say. Else nothing is written.
     fn write(header: Header, out: &mut [u8]) -> bool
         ensures answer { result ≡ header_fits model header (length out.old) }
         ensures bytes { out.new ≡ headed model header out.old };

@@ -60,6 +60,7 @@ fn lay<S: Scheme>(header: Header, part: &[u8], bytes: &mut [u8]) -> usize
     ensures size { result ≡ S.Scheme.model.header + length part.now }
     ensures bytes { bytes.new ≡ (S.Scheme.model.write header ++ part.now) ++ drop result bytes.old }
 {
+    // It fits, so it is written.
     let _ = S::write(header, bytes);
     let end = S::HEADER + part.len();
     bytes[S::HEADER..end].copy_from_slice(part);
