@@ -13,9 +13,13 @@ row_of rank fix = record { rank = rank; reply = fix.key / 256 % 256; time = fix.
 abbrev pub column : ℕ → List ℕ → List ℕ
 column width text = replicate (width - length text) 32 ++ text
 
--- right-aligned columns, and a newline (byte 10)
+-- right-aligned columns
+abbrev pub row_columns : Row → List ℕ
+row_columns row = column 4 (decimal row.rank) ++ column 4 (decimal row.reply) ++ column 11 (decimal row.time) ++ column 4 (decimal row.satellites) ++ column 8 (signed_decimal row.pdop)
+
+-- the columns, and a newline (byte 10)
 abbrev pub row_text : Row → List ℕ
-row_text row = column 4 (decimal row.rank) ++ column 4 (decimal row.reply) ++ column 11 (decimal row.time) ++ column 4 (decimal row.satellites) ++ column 8 (signed_decimal row.pdop) ++ (10 ∷ [])
+row_text row = row_columns row ++ (10 ∷ [])
 
 -- the rows of fixes, ranked from a first rank on
 abbrev pub rows_from : ℕ → List Fix → List ℕ

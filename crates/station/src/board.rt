@@ -2,10 +2,10 @@
 ghost use Rattle.std.specs.Prelude.{◌≡◌, ℕ, min, List, length};
 ghost use Rattle.fixes.specs.declared.fix.Fix.{Fix as Fixed};
 ghost use Rattle.link.specs.Views.{state_of};
-ghost use Rattle.station.specs.Boards.{BoardOf, rows_of};
+ghost use Rattle.station.specs.Boards.{BoardOf, row_of, rows_of};
 
-use line::Capture;
-use line::read_ahead::ReadAhead;
+use fixes::Fix;
+use line::Line;
 use link::Link;
 use paging::app_file::AppFile;
 use paging::raw_data::RawData;
@@ -13,7 +13,7 @@ use paging::raw_data::RawData;
 // A fix: the key of its report, its time in milliseconds of the week, the bits of its PDOP and its
 // number of satellites.
 #[repr(C)]
-#[derive(Clone, Copy)]
+#[derive(Clone, Copy, Debug, PartialEq, Eq)]
 pub struct StationFix {
     pub key: u32,
     pub time: u32,
@@ -21,24 +21,26 @@ pub struct StationFix {
     pub satellites: u8,
 }
 
-// Pulls a new link to idle over the capture and puts the best fixes, the best one first, into the rows, as
-// many as there are and as fit. Answers how many; the other rows are as before.
-pub fn station_board(capture: &[u8], rows: &mut [StationFix]) -> usize
-    ensures { (board : List Fixed) × BoardOf capture.now board × (result ≡ min (length board) (length rows.old)) × (rows.new ≡ rows_of board rows.old) }
-{
-    let mut line = Capture::new(capture);
-    let mut link: Link<RawData, AppFile> = Link::new();
-    let _held = link.pull_to_idle(&mut line);
-    write_rows(&link, rows)
+impl From<Fix> for StationFix {
+    ghost from_gives = { λ f r. r ≡ row_of f };
+
+    fn from(fix: Fix) -> StationFix {
+        StationFix {
+            key: fix.key,
+            time: fix.time,
+            pdop: fix.pdop,
+            satellites: fix.satellites,
+        }
+    }
 }
 
-// The same through the read-ahead.
-pub fn station_board_ahead(capture: &[u8], rows: &mut [StationFix]) -> usize
-    ensures { (board : List Fixed) × BoardOf capture.now board × (result ≡ min (length board) (length rows.old)) × (rows.new ≡ rows_of board rows.old) }
+// Pulls a new link to idle over what waits on the line and puts the best fixes, the best one first, into
+// the rows, as many as there are and as fit. Answers how many; the other rows are as before.
+pub fn station_board<L: Line>(line: &mut L, rows: &mut [StationFix]) -> usize
+    ensures { (board : List Fixed) × BoardOf (L.Line.waiting line.old) board × (result ≡ min (length board) (length rows.old)) × (rows.new ≡ rows_of board rows.old) }
 {
-    let mut line = ReadAhead::new(Capture::new(capture));
     let mut link: Link<RawData, AppFile> = Link::new();
-    let _held = link.pull_to_idle(&mut line);
+    let _held = link.pull_to_idle(line);
     write_rows(&link, rows)
 }
 
@@ -46,18 +48,11 @@ fn write_rows(link: &Link<RawData, AppFile>, rows: &mut [StationFix]) -> usize
     ensures count { result ≡ min (length (state_of link.now).board) (length rows.old) }
     ensures rows { rows.new ≡ rows_of (state_of link.now).board rows.old }
 {
-    let mut count = 0;
-    while count < rows.len() {
+    for (count, row) in rows.iter_mut().enumerate() {
         let Ok(fix) = link.look(count + 1) else {
             return count;
         };
-        rows[count] = StationFix {
-            key: fix.key,
-            time: fix.time,
-            pdop: fix.pdop,
-            satellites: fix.satellites,
-        };
-        count += 1;
+        *row = StationFix::from(fix);
     }
-    count
+    rows.len()
 }

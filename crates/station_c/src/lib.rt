@@ -1,4 +1,4 @@
-// The functions of `station` for programs in other languages: functions that C can call, each over a capture
+// The board of `station` for programs in other languages: functions that C can call, each over a capture
 // in the caller's memory. `bench/station.h` is their C header.
 //
 // A function here asks of its caller what C cannot say: every pointer is aligned and not null, also
@@ -10,6 +10,8 @@ ghost use Rattle.std.specs.Prelude.{◌≡◌, min, List, length};
 ghost use Rattle.fixes.specs.declared.fix.Fix.{Fix as Fixed};
 ghost use Rattle.station.specs.Boards.{BoardOf, rows_of};
 
+use line::Capture;
+use line::read_ahead::ReadAhead;
 use station::StationFix;
 
 // Pulls a new link to idle over the capture and puts the best fixes, the best one first, into the rows, as
@@ -18,7 +20,7 @@ use station::StationFix;
 pub extern "C" fn station_board(capture: &[u8], rows: &mut [StationFix]) -> usize
     ensures { (board : List Fixed) × BoardOf capture.now board × (result ≡ min (length board) (length rows.old)) × (rows.new ≡ rows_of board rows.old) }
 {
-    station::station_board(capture, rows)
+    station::station_board(&mut Capture::new(capture), rows)
 }
 
 // The same through the read-ahead.
@@ -26,5 +28,5 @@ pub extern "C" fn station_board(capture: &[u8], rows: &mut [StationFix]) -> usiz
 pub extern "C" fn station_board_ahead(capture: &[u8], rows: &mut [StationFix]) -> usize
     ensures { (board : List Fixed) × BoardOf capture.now board × (result ≡ min (length board) (length rows.old)) × (rows.new ≡ rows_of board rows.old) }
 {
-    station::station_board_ahead(capture, rows)
+    station::station_board(&mut ReadAhead::new(Capture::new(capture)), rows)
 }
