@@ -51,8 +51,7 @@ fn written_count(answer: Answer) -> usize
     ensures { result ≡ written_count answer }
 {
     match answer {
-        Answer::Report { len, .. } => len,
-        Answer::Other { len, .. } => len,
+        Answer::Report { len, .. } | Answer::Other { len, .. } => len,
         _ => 0,
     }
 }
@@ -61,11 +60,7 @@ fn written_count(answer: Answer) -> usize
 pub fn written(answer: Answer, buffer: &[u8]) -> &[u8]
     ensures { result.now ≡ take (written_count answer) buffer.now }
 {
-    let count = written_count(answer);
-    if count >= buffer.len() {
-        return buffer;
-    }
-    &buffer[0..count]
+    buffer.get(..written_count(answer)).unwrap_or(buffer)
 }
 
 impl fmt::Display for AnswerLine<'_> {

@@ -17,20 +17,14 @@ pub fn log(heap: Global, capture: &[u8]) -> Result<String, AllocError> {
     let mut buffer = [0; REPORT];
     loop {
         let answer = link.pull(&mut line, &mut buffer);
-        let taken = line.taken();
-        add(&mut text, taken, answer, &buffer)?;
-        if let Answer::Idle { held: _ } = answer {
+        let answer_line = AnswerLine {
+            taken: line.taken(),
+            answer,
+            buffer: &buffer,
+        };
+        writeln!(text, "{answer_line}")?;
+        if let Answer::Idle { .. } = answer {
             return Ok(text);
         }
     }
-}
-
-// Adds the line of one answer.
-fn add(text: &mut String, taken: usize, answer: Answer, buffer: &[u8]) -> Result<(), AllocError> {
-    let line = AnswerLine {
-        taken,
-        answer,
-        buffer,
-    };
-    writeln!(text, "{line}")
 }
