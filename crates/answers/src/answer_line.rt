@@ -8,26 +8,11 @@ use refusal::Refusal;
 use std::fmt;
 
 // An answer, with the bytes taken from the line so far and the buffer that the pull was given.
-#[derive(Clone, Copy)]
+#[derive(Clone, Copy, Debug, PartialEq, Eq)]
 pub struct AnswerLine<'a> {
     pub taken: usize,
     pub answer: Answer,
     pub buffer: &'a [u8],
-}
-
-// A refusal as it is printed: NUMBER/LAYER/PLACE.
-#[derive(Clone, Copy)]
-pub struct RefusalText(pub Refusal);
-
-impl fmt::Display for RefusalText {
-    fn fmt<W: fmt::Write>(&self, f: &mut fmt::Formatter<W>) -> fmt::Result {
-        let Refusal {
-            number,
-            layer,
-            place,
-        } = self.0;
-        write!(f, "{number}/{layer}/{place}")
-    }
 }
 
 // A reading as it is printed: 0, or the refusal.
@@ -38,10 +23,7 @@ impl fmt::Display for Reading {
     fn fmt<W: fmt::Write>(&self, f: &mut fmt::Formatter<W>) -> fmt::Result {
         match self.0 {
             Ok(()) => write!(f, "0"),
-            Err(fault) => {
-                let refusal = RefusalText(fault.refusal());
-                write!(f, "{refusal}")
-            }
+            Err(fault) => Refusal::from(fault).fmt(f),
         }
     }
 }
@@ -88,7 +70,7 @@ impl fmt::Display for AnswerLine<'_> {
                 write!(f, "{taken} report {kind:02X} {key} {len} {reading} {bytes}")
             }
             Answer::Refused(fault) => {
-                let refusal = RefusalText(fault.refusal());
+                let refusal = Refusal::from(fault);
                 write!(f, "{taken} refused {refusal}")
             }
         }

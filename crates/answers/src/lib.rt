@@ -18,6 +18,6 @@ mod answer_line;
 mod capture_log;
 mod hex;
 
-pub use answer_line::{AnswerLine, RefusalText, written};
+pub use answer_line::{AnswerLine, written};
 pub use capture_log::log;
 pub use hex::Hex;
