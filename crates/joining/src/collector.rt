@@ -1,7 +1,7 @@
 // The pages held of one scheme, written once for every scheme.
-ghost use Rattle.std.specs.Prelude.{◌≡◌, ℕ, ◌+◌, ◌-◌, ◌<◌, ◌≤◌, [], ◌++◌, length, ◌≢◌};
-ghost use Rattle.joining.specs.Joining.{Collected, collected, placed, kept, next_page, no_pages};
-ghost use Rattle.joining.specs.Views.{held_of, joined_of, Emptied};
+ghost use Rattle.std.specs.Prelude.{◌≡◌, ◌≤◌, [], length, ◌≢◌};
+ghost use Rattle.joining.specs.Joining.{collected, next_page, no_pages};
+ghost use Rattle.joining.specs.Views.{held_of, joined_of, told_by, Emptied};
 
 use crate::store::Store;
 use paging::fault::PageFault;
@@ -18,9 +18,8 @@ pub enum Step {
 #[derive(Drop)]
 pub struct Collector<S> {
     store: Store,
-    key: u32,
-    total: u16,
-    count: u16,
+    // The header of the last page held, if any is.
+    last: Option<Header>,
     of: PhantomData<S>,
 }
 
@@ -30,9 +29,7 @@ impl<S: Scheme> Collector<S> {
     {
         Collector {
             store: Store::new(),
-            key: 0,
-            total: 0,
-            count: 0,
+            last: None,
             of: PhantomData,
         }
     }
@@ -43,78 +40,49 @@ impl<S: Scheme> Collector<S> {
         ensures bytes { self.new.store ≡ [] }
     {
         self.store.clear();
-        self.close();
+        self.last = None;
     }
 
-    // No page is held any more; the bytes stay in the store.
-    fn close(&mut self)
-        ensures held { held_of self.new ≡ no_pages }
-        ensures bytes { self.new.store ≡ self.old.store }
-    {
-        self.key = 0;
-        self.total = 0;
-        self.count = 0;
-    }
-
-    // Whether a page comes behind those held.
+    // Whether a page that begins no report comes behind those held.
     fn follows(&self, header: Header) -> bool
+        requires { header.page ≢ 1 }
         ensures { result ≡ next_page header (held_of self.now) }
     {
-        header.page > self.count
-            && header.page - self.count == 1
-            && header.key == self.key
-            && header.total == self.total
+        self.last.and_then(Header::next) == Some(header)
     }
 
-    // Adds a body to the bytes in the store.
-    fn keep(&mut self, header: Header, body: &[u8]) -> Result<Step, PageFault>
-        requires { header.page ≢ 0 }
-        ensures page { record { joined = joined_of result self.new.store; held = held_of self.new } ≡ kept header (self.old.store ++ body.now) }
-        ensures refused { Emptied result self.new.store }
+    // Joins a page to those held, which a refusal leaves to be dropped.
+    fn join(&mut self, data: &[u8]) -> Result<Step, PageFault>
+        ensures { told_by result self.new.store (held_of self.new) ≡ collected S.Scheme.model «data».now (held_of self.old) }
     {
-        if self.store.add(body).is_none() {
+        let (key, page, total) = S::read(data)?;
+        let header = Header { key, page, total };
+        let out_of_turn = PageFault::OutOfTurn(page as usize);
+        if page == 1 {
             self.drop_pages();
-            return Err(PageFault::OutOfTurn(header.page as usize));
+        } else if !self.follows(header) {
+            return Err(out_of_turn);
         }
-        let Header { key, page, total } = header;
+        self.store.add(&data[S::HEADER..]).ok_or(out_of_turn)?;
         if page == total {
-            self.close();
+            self.last = None;
             return Ok(Step::Whole(key));
         }
-        self.key = key;
-        self.total = total;
-        self.count = page;
+        self.last = Some(header);
         Ok(Step::More(page, total))
     }
 
-    // Puts a body at the place that its header names.
-    fn place(&mut self, header: Header, body: &[u8]) -> Result<Step, PageFault>
-        ensures page { record { joined = joined_of result self.new.store; held = held_of self.new } ≡ placed header body.now (held_of self.old) }
-        ensures refused { Emptied result self.new.store }
-    {
-        if header.page == 1 {
-            self.drop_pages();
-            return self.keep(header, body);
-        }
-        if self.follows(header) {
-            return self.keep(header, body);
-        }
-        self.drop_pages();
-        Err(PageFault::OutOfTurn(header.page as usize))
-    }
-
-    // Joins a page to those held. A whole report stays in the store until the next page comes.
+    // Joins a page to those held, or drops them with it. A whole report stays in the store until the next
+    // page comes.
     pub fn add(&mut self, data: &[u8]) -> Result<Step, PageFault>
         ensures page { record { joined = joined_of result self.new.store; held = held_of self.new } ≡ collected S.Scheme.model «data».now (held_of self.old) }
         ensures refused { Emptied result self.new.store }
     {
-        match S::read(data) {
-            Ok((key, page, total)) => self.place(Header { key, page, total }, &data[S::HEADER..]),
-            Err(fault) => {
-                self.drop_pages();
-                Err(fault)
-            }
+        let joined = self.join(data);
+        if joined.is_err() {
+            self.drop_pages();
         }
+        joined
     }
 
     // The bytes in the store: behind a whole report that report, behind a refused page none.
