@@ -6,7 +6,7 @@ use crate::double::rank_key;
 use ranking::Ranked;
 
 // The key of the report, the time in milliseconds of the week, the PDOP's bits, the number of satellites.
-#[derive(Clone, Copy)]
+#[derive(Clone, Copy, Debug, PartialEq, Eq)]
 pub struct Fix {
     pub key: u32,
     pub time: u32,

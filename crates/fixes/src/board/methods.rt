@@ -27,11 +27,7 @@ impl FixBoard {
     fn keeps_out(&self, fix: &Fix) -> bool
         ensures { result ≡ true → enter fix.now (board_of self.now) ≡ board_of self.now }
     {
-        if self.count < 32 {
-            return false;
-        }
-        let last = self.places[31];
-        last.no_later(fix)
+        self.len() == 32 && self.places[31].no_later(fix)
     }
 
     // Puts a fix at its rank; a full board loses its last. One that a full board would lose itself is
@@ -58,9 +54,7 @@ impl FixBoard {
     pub fn at(&self, rank: usize) -> Option<Fix>
         ensures { result ≡ at_rank rank (board_of self.now) }
     {
-        if rank == 0 || rank > self.count {
-            return None;
-        }
-        Some(self.places[rank - 1])
+        let place = rank.checked_sub(1)?;
+        self.places[..self.count].get(place).copied()
     }
 }
