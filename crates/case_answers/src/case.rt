@@ -1,7 +1,5 @@
 // A case, read from its line.
-use std::alloc::Global;
-use std::io;
-use std::io::ErrorKind;
+use vectors::schemes::PageScheme;
 
 // A longer line is printed without its bytes.
 const LONG: usize = 800;
@@ -45,38 +43,7 @@ pub fn low_byte(number: u32) -> u8 {
     (number % 256) as u8
 }
 
-// Hex digits, `-` for no bytes, or rule:N for N bytes by a rule.
-pub fn bytes_of(heap: Global, word: &str) -> io::Result<Vec<u8>> {
-    if word == "-" {
-        return Ok(Vec::new(heap));
-    }
-    let Some(count) = word.strip_prefix("rule:") else {
-        return from_hex(heap, word);
-    };
-    match count.parse::<u32>() {
-        Ok(count) => by_rule(heap, count),
-        Err(_) => Err(ErrorKind::InvalidData.into()),
-    }
-}
-
-// Byte i is 7 i + 13 (i div 256) + 5, modulo 256.
-fn by_rule(heap: Global, count: u32) -> io::Result<Vec<u8>> {
-    let mut bytes = Vec::new(heap);
-    for i in 0..count {
-        let sum = i.wrapping_mul(7).wrapping_add((i / 256).wrapping_mul(13));
-        bytes.push(low_byte(sum.wrapping_add(5)))?;
-    }
-    Ok(bytes)
-}
-
-fn from_hex(heap: Global, word: &str) -> io::Result<Vec<u8>> {
-    let mut bytes = Vec::new(heap);
-    for at in (0..word.len()).step_by(2) {
-        let pair = word.get(at..at.saturating_add(2)).unwrap_or("half a byte");
-        let Ok(byte) = u8::from_str_radix(pair, 16) else {
-            return Err(ErrorKind::InvalidData.into());
-        };
-        bytes.push(byte)?;
-    }
-    Ok(bytes)
+// The scheme of a packet type; application files have every type that no scheme has.
+pub fn scheme_of(packet_type: u32) -> PageScheme {
+    PageScheme::try_from(packet_type).unwrap_or(PageScheme::AppFile)
 }

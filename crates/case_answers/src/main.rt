@@ -5,15 +5,23 @@
 #![tactic(auto)]
 
 mod case;
-mod parts;
 mod ranked;
-mod readings;
 mod streams;
-mod writers;
 
-use case::{Case, bytes_of, low_byte, read_case};
+use case::{Case, low_byte, read_case, scheme_of};
+use packet::read::read;
+use record_vectors::record_parts::{Parts, records_text, satellites_text};
+use record_vectors::report_texts::{HeaderText, kind_name, report_reading};
 use records::{position, survey};
+use std::fmt::Display;
 use std::io;
+use std::io::ErrorKind;
+use stream_vectors::packet_text::PacketText;
+use stream_vectors::rank_cases::DoubleText;
+use stream_vectors::writer_cases::{packet_written, pages_written};
+use vectors::hex_text::source;
+use vectors::refusals::Reading;
+use vectors::words::is_remark;
 use worked::worked_cases_hold;
 
 fn main(rt: HostRuntime) -> io::Result<()> {
@@ -26,37 +34,71 @@ fn main(rt: HostRuntime) -> io::Result<()> {
 }
 
 fn print_line(rt: &HostRuntime, line: &str) -> io::Result<()> {
-    if line.is_empty() || line.starts_with('#') {
+    if is_remark(line) {
         return rt.println(line);
     }
     let Some(case) = read_case(line) else {
         return rt.println("no case");
     };
-    let bytes = bytes_of(rt.alloc(), case.bytes)?;
+    let Ok(bytes) = source(rt.alloc(), case.bytes) else {
+        return Err(ErrorKind::InvalidData.into());
+    };
     let shown = case.shown;
     print!(rt; "{shown} =>")?;
     print_answer(rt, case, bytes.as_slice())
 }
 
+// An answer, behind a space.
+fn tell<T: Display + Drop>(rt: &HostRuntime, answer: T) -> io::Result<()> {
+    println!(rt; " {answer}")
+}
+
 fn print_answer(rt: &HostRuntime, case: Case<'_>, bytes: &[u8]) -> io::Result<()> {
+    let heap = rt.alloc();
     let [first, second, third] = case.numbers;
+    let (low, scheme) = (low_byte(first), scheme_of(first));
     match case.asked {
-        "position" => readings::print(rt, position::check(bytes)),
-        "survey" => readings::print(rt, survey::check(bytes, low_byte(first))),
-        "application" => readings::print(rt, application::check(bytes)),
-        "kind" => readings::print_kind(rt, first, second),
-        "report" => readings::print_report(rt, first, second, bytes),
-        "header" => readings::print_header(rt, first, bytes),
-        "packet" => readings::print_packet(rt, bytes),
-        "double" => readings::print_double(rt, bytes),
-        "satellites" => parts::print_satellites(rt, low_byte(first), bytes),
-        "records" => parts::print_records(rt, bytes),
+        "position" => tell(rt, Reading(position::check(bytes))),
+        "survey" => tell(rt, Reading(survey::check(bytes, low))),
+        "application" => tell(rt, Reading(application::check(bytes))),
+        "kind" => tell(rt, kind_name(scheme, second)),
+        "report" => tell(rt, Reading(report_reading(scheme, second, bytes))),
+        "header" => tell(rt, HeaderText(scheme.read(bytes))),
+        "packet" => tell(rt, PacketText(read(bytes))),
+        "double" => print_double(rt, bytes),
+        "satellites" => print_parts(rt, satellites_text(heap, bytes, low)?),
+        "records" => print_parts(rt, records_text(heap, bytes)?),
         "rank" => ranked::print(rt, first, low_byte(second), bytes),
-        "signals" => ranked::print_with_time(rt, low_byte(first), bytes),
-        "write-packet" => writers::print_packet(rt, first, second, third, bytes),
-        "write-pages" => writers::print_pages(rt, first, second, third, bytes),
+        "signals" => ranked::print_with_time(rt, low, bytes),
+        "write-packet" => {
+            tell(
+                rt,
+                packet_written(heap, low, low_byte(second), third, bytes)?.as_str(),
+            )
+        }
+        "write-pages" => tell(
+            rt,
+            pages_written(heap, scheme, second, third, bytes)?.as_str(),
+        ),
         "capture" => streams::print_capture(rt, bytes),
         "stream" => streams::print_reports(rt, bytes),
         _ => rt.println(" nothing that is known"),
+    }
+}
+
+// The rank key and the thousandths.
+fn print_double(rt: &HostRuntime, bytes: &[u8]) -> io::Result<()> {
+    let Ok(bytes) = <[u8; 8]>::try_from(bytes) else {
+        return rt.println(" no double");
+    };
+    tell(rt, DoubleText(u64::from_be_bytes(bytes)))
+}
+
+// The parts that a cursor hands out, and the refusal where one is refused.
+fn print_parts(rt: &HostRuntime, parts: Parts) -> io::Result<()> {
+    rt.print(parts.text.as_str())?;
+    match parts.refused {
+        Some(refused) => tell(rt, refused),
+        None => println!(rt),
     }
 }

@@ -1,21 +1,14 @@
 // Ranked lists of signals.
-use crate::readings::print_refusal;
+use crate::tell;
+use record_vectors::ranked_lists::{BLANK, PLACES, SignalText, blank_list};
 use records::survey::head;
 use signals::{Signal, rank_signals};
 use std::io;
-
-// What stands in a list before the call.
-const BLANK: Signal = Signal {
-    prn: 0xEE,
-    snr: 0xEE,
-};
-
-// More places than a survey may fill.
-const PLACES: u32 = 40;
+use vectors::refusals::Refused;
 
 // The list of a survey's signals, with so many places.
 pub fn print(rt: &HostRuntime, places: u32, flags: u8, body: &[u8]) -> io::Result<()> {
-    let mut list = vec![in rt.alloc(); BLANK; places as usize]?;
+    let mut list = blank_list(rt.alloc(), places)?;
     match rank_signals(body, flags, list.as_mut_slice()) {
         Ok(count) => {
             print!(rt; " {count}")?;
@@ -24,7 +17,7 @@ pub fn print(rt: &HostRuntime, places: u32, flags: u8, body: &[u8]) -> io::Resul
         }
         Err(fault) => {
             print_places(rt, 0, list.as_slice())?;
-            print_refusal(rt, fault.refusal())
+            tell(rt, Refused(fault.refusal()))
         }
     }
 }
@@ -32,9 +25,9 @@ pub fn print(rt: &HostRuntime, places: u32, flags: u8, body: &[u8]) -> io::Resul
 // PRN:SNR of the places that are used, and of each other place that is not as before the call.
 fn print_places(rt: &HostRuntime, used: usize, list: &[Signal]) -> io::Result<()> {
     for (place, signal) in list.iter().enumerate() {
-        let Signal { prn, snr } = *signal;
-        if place < used || prn != BLANK.prn || snr != BLANK.snr {
-            print!(rt; " {prn}:{snr}")?;
+        if place < used || *signal != BLANK {
+            let signal = SignalText(*signal);
+            print!(rt; " {signal}")?;
         }
     }
     Ok(())

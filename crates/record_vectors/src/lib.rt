@@ -3,6 +3,7 @@
 #![tactic(auto)]
 
 pub mod outside_signals;
-mod ranked_lists;
+pub mod ranked_lists;
 pub mod record_cases;
-mod record_parts;
+pub mod record_parts;
+pub mod report_texts;

@@ -1,17 +1,21 @@
 // Ranked lists of signals. The order among equal SNR is free, so a list is held against groups of equal SNR.
-use anyhow::anyhow;
+use anyhow::Context;
 use records::fault::RecordFault;
 use signals::{Signal, rank_signals};
-use std::alloc::Global;
+use std::alloc::{AllocError, Global};
+use std::fmt;
 use std::str::SplitWhitespace;
-use vectors::refusals::refusal_text;
-use vectors::words::{bytes, flags, number};
+use vectors::refusals::Refused;
+use vectors::words::Words;
 
 // What stands in a list before the call.
-const BLANK: Signal = Signal {
+pub const BLANK: Signal = Signal {
     prn: 0xEE,
     snr: 0xEE,
 };
+
+// The places of a list for a whole survey: more than it may fill.
+pub const PLACES: u32 = 40;
 
 // So many places are filled with signals of this SNR, each a different one of the satellites named.
 #[derive(Drop)]
@@ -21,73 +25,50 @@ struct Group {
     prns: Vec<u8>,
 }
 
-// A list of so many places, none of them used.
-pub fn blank_list(heap: Global, places: u32) -> anyhow::Result<Vec<Signal>> {
-    let mut list = Vec::new(heap);
-    for _ in 0..places {
-        list.push(BLANK)?;
+// PRN:SNR
+#[derive(Clone, Copy)]
+pub struct SignalText(pub Signal);
+
+impl fmt::Display for SignalText {
+    fn fmt<W: fmt::Write>(&self, f: &mut fmt::Formatter<W>) -> fmt::Result {
+        let Signal { prn, snr } = self.0;
+        write!(f, "{prn}:{snr}")
     }
-    Ok(list)
 }
 
-fn is_same(a: Signal, b: Signal) -> bool {
-    a.prn == b.prn && a.snr == b.snr
+// A list of so many places, none of them used.
+pub fn blank_list(heap: Global, places: u32) -> Result<Vec<Signal>, AllocError> {
+    Ok(vec![in heap; BLANK; places as usize]?)
 }
 
 // Whether all places are as they were before the call.
 pub fn is_blank(places: &[Signal]) -> bool {
-    for signal in places {
-        if !is_same(*signal, BLANK) {
-            return false;
-        }
-    }
-    true
+    places.iter().all(|signal| *signal == BLANK)
 }
 
-// How often a signal stands in a list.
-pub fn times(list: &[Signal], signal: Signal) -> usize {
-    let mut count: usize = 0;
-    for other in list {
-        if is_same(*other, signal) {
-            count = count.saturating_add(1);
-        }
-    }
-    count
-}
-
-fn times_named(prns: &[u8], prn: u8) -> usize {
-    let mut count: usize = 0;
-    for named in prns {
-        if *named == prn {
-            count = count.saturating_add(1);
-        }
-    }
-    count
+// How often an entry stands in a list.
+pub fn times<T: PartialEq>(list: &[T], entry: &T) -> usize {
+    list.iter().filter(|other| *other == entry).count()
 }
 
 // COUNT, then PRN:SNR for each place used.
 pub fn list_text(heap: Global, count: usize, list: &[Signal]) -> anyhow::Result<String> {
     let mut text = format!(in heap; "{count}")?;
     for signal in list.iter().take(count) {
-        let prn = signal.prn;
-        let snr = signal.snr;
-        write!(text, " {prn}:{snr}")?;
+        let signal = SignalText(*signal);
+        write!(text, " {signal}")?;
     }
     Ok(text)
 }
 
 // SNR:HOW-MANY:PRN,PRN,..
 fn read_group(heap: Global, word: &str) -> anyhow::Result<Group> {
-    let Some((snr, rest)) = word.split_once(':') else {
-        return Err(anyhow!("a group has no count"));
-    };
-    let Some((count, names)) = rest.split_once(':') else {
-        return Err(anyhow!("a group has no satellites"));
-    };
-    let mut prns = Vec::new(heap);
-    for name in names.split(',') {
-        prns.push(name.parse::<u8>()?)?;
-    }
+    let (snr, rest) = word.split_once(':').context("a group has no count")?;
+    let (count, names) = rest.split_once(':').context("a group has no satellites")?;
+    let prns = names
+        .split(',')
+        .map(|name| -> anyhow::Result<u8> { Ok(name.parse::<u8>()?) })
+        .try_collect(heap)?;
     Ok(Group {
         snr: snr.parse::<u8>()?,
         count: count.parse::<usize>()?,
@@ -97,15 +78,10 @@ fn read_group(heap: Global, word: &str) -> anyhow::Result<Group> {
 
 // Whether the places hold signals of a group, none more often than it is named.
 fn is_filled_by(places: &[Signal], group: &Group) -> bool {
-    for signal in places {
-        if signal.snr != group.snr {
-            return false;
-        }
-        if times(places, *signal) > times_named(group.prns.as_slice(), signal.prn) {
-            return false;
-        }
-    }
-    true
+    let prns = group.prns.as_slice();
+    places.iter().all(|signal| {
+        signal.snr == group.snr && times(places, signal) <= times(prns, &signal.prn)
+    })
 }
 
 // Whether the groups, one behind the other, fill the places that are used, and the others are as before.
@@ -117,13 +93,9 @@ fn is_allowed(
 ) -> anyhow::Result<bool> {
     let mut rest = list;
     let mut filled: usize = 0;
-    for word in groups {
-        if word == "free" {
-            continue;
-        }
+    for word in groups.filter(|word| *word != "free") {
         let group = read_group(heap, word)?;
-        let (Some(places), Some(behind)) = (rest.get(0..group.count), rest.get(group.count..))
-        else {
+        let Some((places, behind)) = rest.split_at_checked(group.count) else {
             return Ok(false);
         };
         if !is_filled_by(places, &group) {
@@ -138,9 +110,7 @@ fn is_allowed(
 // What is to come, where the call answers that count and one of the lists allowed.
 fn listed(heap: Global, want: &str, count: usize, list: &[Signal]) -> anyhow::Result<String> {
     let mut words = want.split_whitespace();
-    let Some(wanted) = words.next() else {
-        return Err(anyhow!("nothing is to come"));
-    };
+    let wanted = words.next().context("nothing is to come")?;
     if wanted.parse::<usize>() == Ok(count) && is_allowed(heap, words, count, list)? {
         return Ok(String::from_str(heap, want)?);
     }
@@ -148,25 +118,21 @@ fn listed(heap: Global, want: &str, count: usize, list: &[Signal]) -> anyhow::Re
 }
 
 // The survey call of a case, with a list of the case's places.
-pub fn ranked_list(
-    heap: Global,
-    words: &mut SplitWhitespace<'_>,
-    want: &str,
-) -> anyhow::Result<String> {
-    let places = number(words)?;
-    let flags = flags(words)?;
-    let body = bytes(heap, words)?;
-    let mut list = blank_list(heap, places)?;
+pub fn ranked_list(words: &mut Words<'_>, want: &str) -> anyhow::Result<String> {
+    let places = words.number::<u32>()?;
+    let flags = words.number::<u8>()?;
+    let body = words.bytes()?;
+    let mut list = blank_list(words.heap, places)?;
     match rank_signals(body.as_slice(), flags, list.as_mut_slice()) {
-        Ok(count) => listed(heap, want, count, list.as_slice()),
-        Err(fault) => refused(heap, fault, list.as_slice()),
+        Ok(count) => listed(words.heap, want, count, list.as_slice()),
+        Err(fault) => refused(words, fault, list.as_slice()),
     }
 }
 
 // The refusal, which leaves the list as it was.
-fn refused(heap: Global, fault: RecordFault, list: &[Signal]) -> anyhow::Result<String> {
+fn refused(words: &Words<'_>, fault: RecordFault, list: &[Signal]) -> anyhow::Result<String> {
     if !is_blank(list) {
-        return Ok(String::from_str(heap, "a refusal with the list changed")?);
+        return words.text(&"a refusal with the list changed");
     }
-    refusal_text(heap, fault.refusal())
+    words.text(&Refused(fault.refusal()))
 }

@@ -1,111 +1,117 @@
 // What the cursors over surveys and application files hand out, as text.
+ghost use Rattle.std.specs.Iterator.{IsFinite};
+
 use answers::Hex;
 use application::{Record, Records};
+use records::fault::RecordFault;
 use records::survey::{Satellite, Satellites};
-use std::alloc::Global;
-use std::str::SplitWhitespace;
-use vectors::refusals::refusal_text;
-use vectors::words::{bytes, flags};
+use std::alloc::{AllocError, Global};
+use std::fmt;
+use vectors::refusals::Refused;
 
 // A part in hex, `-` where it is not there.
 fn part(bytes: Option<&[u8]>) -> Hex<'_> {
-    match bytes {
-        Some(bytes) => Hex(bytes),
-        None => Hex(&[]),
-    }
-}
-
-// A space between two entries.
-fn separate(text: &mut String) -> anyhow::Result<()> {
-    if text.is_empty() {
-        return Ok(());
-    }
-    Ok(text.push_str(" ")?)
-}
-
-// The entries, `-` for none.
-fn or_none(text: String) -> anyhow::Result<String> {
-    let mut text = text;
-    if text.is_empty() {
-        text.push_str("-")?;
-    }
-    Ok(text)
+    Hex(bytes.unwrap_or(&[]))
 }
 
 // PLACE:PRN:FLAGS1:FLAGS2:ELEVATION:AZIMUTH:L1:L2:EXTRA
-fn add_satellite(text: &mut String, satellite: Satellite<'_>) -> anyhow::Result<()> {
-    let Satellite {
-        place,
-        prn,
-        flags1,
-        flags2,
-        elevation,
-        azimuth,
-        l1,
-        l2,
-        enhanced,
-    } = satellite;
-    separate(text)?;
-    write!(
-        text,
-        "{place}:{prn}:{flags1}:{flags2}:{elevation}:{azimuth}"
-    )?;
-    let l1 = part(l1);
-    let l2 = part(l2);
-    let enhanced = part(enhanced);
-    write!(text, ":{l1}:{l2}:{enhanced}")?;
-    Ok(())
-}
+#[derive(Clone, Copy)]
+struct SatelliteText<'a>(Satellite<'a>);
 
-pub fn satellites_text(heap: Global, words: &mut SplitWhitespace<'_>) -> anyhow::Result<String> {
-    let flags = flags(words)?;
-    let body = bytes(heap, words)?;
-    match Satellites::new(body.as_slice(), flags) {
-        Ok(satellites) => each_satellite(heap, satellites),
-        Err(fault) => refusal_text(heap, fault.refusal()),
+impl fmt::Display for SatelliteText<'_> {
+    fn fmt<W: fmt::Write>(&self, f: &mut fmt::Formatter<W>) -> fmt::Result {
+        let Satellite {
+            place,
+            prn,
+            flags1,
+            flags2,
+            elevation,
+            azimuth,
+            l1,
+            l2,
+            enhanced,
+        } = self.0;
+        write!(f, "{place}:{prn}:{flags1}:{flags2}:{elevation}:{azimuth}")?;
+        let l1 = part(l1);
+        let l2 = part(l2);
+        let enhanced = part(enhanced);
+        write!(f, ":{l1}:{l2}:{enhanced}")
     }
-}
-
-fn each_satellite(heap: Global, satellites: Satellites<'_>) -> anyhow::Result<String> {
-    let mut text = String::new(heap);
-    for found in satellites {
-        match found {
-            Ok(satellite) => add_satellite(&mut text, satellite)?,
-            Err(fault) => return refusal_text(heap, fault.refusal()),
-        }
-    }
-    or_none(text)
 }
 
 // PLACE:SORT:TYPE:DATA
-fn add_record(text: &mut String, record: Record<'_>) -> anyhow::Result<()> {
-    separate(text)?;
-    let (place, sort, kind, bytes) = match record {
-        Record::Galileo { place, states } => (place, "galileo", 0x4F, states),
-        Record::BeiDou { place, states } => (place, "beidou", 0x50, states),
-        Record::Qzss { place, states } => (place, "qzss", 0x5F, states),
-        Record::Unknown { kind, place, bytes } => (place, "unknown", kind, bytes),
-    };
-    let bytes = Hex(bytes);
-    write!(text, "{place}:{sort}:{kind:02X}:{bytes}")?;
-    Ok(())
-}
+#[derive(Clone, Copy)]
+struct RecordText<'a>(Record<'a>);
 
-pub fn records_text(heap: Global, words: &mut SplitWhitespace<'_>) -> anyhow::Result<String> {
-    let body = bytes(heap, words)?;
-    match Records::new(body.as_slice()) {
-        Ok(records) => each_record(heap, records),
-        Err(fault) => refusal_text(heap, fault.refusal()),
+impl fmt::Display for RecordText<'_> {
+    fn fmt<W: fmt::Write>(&self, f: &mut fmt::Formatter<W>) -> fmt::Result {
+        let (place, sort, kind, bytes) = match self.0 {
+            Record::Galileo { place, states } => (place, "galileo", 0x4F, states),
+            Record::BeiDou { place, states } => (place, "beidou", 0x50, states),
+            Record::Qzss { place, states } => (place, "qzss", 0x5F, states),
+            Record::Unknown { kind, place, bytes } => (place, "unknown", kind, bytes),
+        };
+        let bytes = Hex(bytes);
+        write!(f, "{place}:{sort}:{kind:02X}:{bytes}")
     }
 }
 
-fn each_record(heap: Global, records: Records<'_>) -> anyhow::Result<String> {
+// The parts up to the end or to the first that is refused, a space before each.
+#[derive(Drop)]
+pub struct Parts {
+    pub text: String,
+    pub refused: Option<Refused>,
+}
+
+pub fn satellites_text(heap: Global, body: &[u8], flags: u8) -> Result<Parts, AllocError> {
+    match Satellites::new(body, flags) {
+        Ok(satellites) => each_part(heap, satellites.map(|found| found.map(SatelliteText))),
+        Err(fault) => no_parts(heap, fault),
+    }
+}
+
+pub fn records_text(heap: Global, body: &[u8]) -> Result<Parts, AllocError> {
+    match Records::new(body) {
+        Ok(records) => each_part(heap, records.map(|found| found.map(RecordText))),
+        Err(fault) => no_parts(heap, fault),
+    }
+}
+
+fn no_parts(heap: Global, fault: RecordFault) -> Result<Parts, AllocError> {
+    Ok(Parts {
+        text: String::new(heap),
+        refused: Some(Refused(fault.refusal())),
+    })
+}
+
+fn each_part<T: fmt::Display + Drop, I: Iterator<Item = Result<T, RecordFault>> + Drop>(
+    heap: Global,
+    cursor: I,
+) -> Result<Parts, AllocError>
+    requires can { I.can_next cursor }
+    requires ends { IsFinite (I.remaining cursor) }
+{
     let mut text = String::new(heap);
-    for found in records {
+    for found in cursor {
         match found {
-            Ok(record) => add_record(&mut text, record)?,
-            Err(fault) => return refusal_text(heap, fault.refusal()),
+            Ok(part) => write!(text, " {part}")?,
+            Err(fault) => {
+                let refused = Some(Refused(fault.refusal()));
+                return Ok(Parts { text, refused });
+            }
         }
     }
-    or_none(text)
+    Ok(Parts {
+        text,
+        refused: None,
+    })
+}
+
+// The parts with a space between two, `-` for none; where one is refused, the refusal alone.
+pub fn parts_or_refusal(heap: Global, parts: Parts) -> anyhow::Result<String> {
+    if let Some(refused) = parts.refused {
+        return Ok(refused.to_string(heap)?);
+    }
+    let text = parts.text.as_str();
+    Ok(String::from_str(heap, text.strip_prefix(' ').unwrap_or("-"))?)
 }

@@ -6,63 +6,40 @@ use link::Link;
 use paging::app_file::AppFile;
 use paging::raw_data::RawData;
 use rows::board_text;
-use std::alloc::Global;
+use std::alloc::{AllocError, Global};
 use std::fs;
 use vectors::hex_text::from_hex;
-use vectors::tally::Tally;
-use vectors::words::{is_remark, word};
+use vectors::tally::{Tally, each_case};
+use vectors::words::Words;
 
 pub fn run(rt: &HostRuntime) -> anyhow::Result<()> {
-    let names = fs::read_to_string(rt, "captures.txt")?;
-    let mut answers = Tally::new("captures, answers");
-    let mut boards = Tally::new("captures, boards");
-    for line in names.as_str().lines() {
-        if is_remark(line) {
-            continue;
-        }
-        let name = word(&mut line.split_whitespace())?;
-        let capture = read_capture(rt, name)?;
-        compare_answers(rt, name, capture.as_slice(), &mut answers)?;
-        compare_board(rt, name, capture.as_slice(), &mut boards)?;
-    }
-    answers.print(rt)?;
-    boards.print(rt)
+    let heap = rt.alloc();
+    let mut answers = Tally::new(rt, "captures, answers");
+    let mut boards = Tally::new(rt, "captures, boards");
+    each_case(rt, "captures.txt", |line| {
+        let name = Words::of(heap, line).word()?;
+        let capture = from_hex(heap, kept(rt, name, "hex")?.as_str())?;
+        let want = kept(rt, name, "answers")?;
+        let got = log(heap, capture.as_slice())?;
+        answers.compare_lines(name, want.as_str(), got.as_str())?;
+        let want = kept(rt, name, "fixlist")?;
+        let got = board_of(heap, capture.as_slice())?;
+        boards.compare_lines(name, want.as_str(), got.as_str())
+    })?;
+    answers.print()?;
+    boards.print()
 }
 
-fn read_capture(rt: &HostRuntime, name: &str) -> anyhow::Result<Vec<u8>> {
-    let path = format!(in rt.alloc(); "captures/{name}.hex")?;
-    let text = fs::read_to_string(rt, path.as_str())?;
-    from_hex(rt.alloc(), text.as_str())
-}
-
-fn compare_answers(
-    rt: &HostRuntime,
-    name: &str,
-    capture: &[u8],
-    tally: &mut Tally,
-) -> anyhow::Result<()> {
-    let path = format!(in rt.alloc(); "captures/{name}.answers")?;
-    let want = fs::read_to_string(rt, path.as_str())?;
-    let got = log(rt.alloc(), capture)?;
-    tally.compare_lines(rt, name, want.as_str(), got.as_str())
-}
-
-fn compare_board(
-    rt: &HostRuntime,
-    name: &str,
-    capture: &[u8],
-    tally: &mut Tally,
-) -> anyhow::Result<()> {
-    let path = format!(in rt.alloc(); "captures/{name}.fixlist")?;
-    let want = fs::read_to_string(rt, path.as_str())?;
-    let got = board_of(rt.alloc(), capture)?;
-    tally.compare_lines(rt, name, want.as_str(), got.as_str())
+// What is kept of a capture in a file of this ending.
+fn kept(rt: &HostRuntime, name: &str, ending: &str) -> anyhow::Result<String> {
+    let path = format!(in rt.alloc(); "captures/{name}.{ending}")?;
+    Ok(fs::read_to_string(rt, path.as_str())?)
 }
 
 // The rows of a capture's board, pulled over the read-ahead.
-fn board_of(heap: Global, capture: &[u8]) -> anyhow::Result<String> {
+pub fn board_of(heap: Global, capture: &[u8]) -> Result<String, AllocError> {
     let mut line = ReadAhead::new(Capture::new(capture));
     let mut link: Link<RawData, AppFile> = Link::new();
     let _held = link.pull_to_idle(&mut line);
-    Ok(board_text(heap, &link)?)
+    board_text(heap, &link)
 }

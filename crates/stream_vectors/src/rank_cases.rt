@@ -1,30 +1,31 @@
 // The cases of ranks.txt: the rank keys and thousandths of DOUBLE patterns.
 use fixes::double::{rank_key, thousandths};
-use std::fs;
-use vectors::tally::Tally;
-use vectors::words::{bits, is_remark, word};
+use std::fmt;
+use vectors::tally::{Tally, each_case};
+use vectors::words::Words;
 
-pub fn run(rt: &HostRuntime) -> anyhow::Result<()> {
-    let text = fs::read_to_string(rt, "ranks.txt")?;
-    let mut tally = Tally::new("ranks");
-    for line in text.as_str().lines() {
-        compare(rt, line, &mut tally)?;
+// A DOUBLE's bits, shown as its rank key and its thousandths.
+#[derive(Clone, Copy)]
+pub struct DoubleText(pub u64);
+
+impl fmt::Display for DoubleText {
+    fn fmt<W: fmt::Write>(&self, f: &mut fmt::Formatter<W>) -> fmt::Result {
+        let key = rank_key(self.0);
+        let thousandths = thousandths(self.0);
+        write!(f, "{key} {thousandths}")
     }
-    tally.print(rt)
 }
 
 // A line is the bits, the rank key and the thousandths; what stands behind them is a remark.
-fn compare(rt: &HostRuntime, line: &str, tally: &mut Tally) -> anyhow::Result<()> {
-    if is_remark(line) {
-        return Ok(());
-    }
-    let mut words = line.split_whitespace();
-    let bits = bits(&mut words)?;
-    let want_key = word(&mut words)?;
-    let want_thousandths = word(&mut words)?;
-    let want = format!(in rt.alloc(); "{want_key} {want_thousandths}")?;
-    let key = rank_key(bits);
-    let thousandths = thousandths(bits);
-    let got = format!(in rt.alloc(); "{key} {thousandths}")?;
-    tally.compare(rt, line, want.as_str(), got.as_str())
+pub fn run(rt: &HostRuntime) -> anyhow::Result<()> {
+    let mut tally = Tally::new(rt, "ranks");
+    each_case(rt, "ranks.txt", |line| {
+        let mut words = Words::of(rt.alloc(), line);
+        let got = DoubleText(words.bits()?);
+        let key = words.word()?;
+        let thousandths = words.word()?;
+        let want = format!(in rt.alloc(); "{key} {thousandths}")?;
+        tally.compare(line, want.as_str(), words.text(&got)?.as_str())
+    })?;
+    tally.print()
 }

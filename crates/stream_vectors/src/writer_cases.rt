@@ -1,17 +1,13 @@
 // The cases of writers.txt: the packet writer and the page writer.
 use answers::Hex;
-use anyhow::anyhow;
+use anyhow::{Context, bail};
 use packet::write::{WriteFault, write};
-use paging::app_file::AppFile;
-use paging::raw_data::RawData;
-use std::alloc::Global;
-use std::fs;
-use std::str::SplitWhitespace;
-use vectors::hex_text::from_hex;
-use vectors::refusals::refusal_text;
-use vectors::tally::Tally;
-use vectors::words::{byte, halves, is_remark, number, word};
-use writing::write_report;
+use std::alloc::{AllocError, Global};
+use std::fmt;
+use vectors::refusals::Refused;
+use vectors::schemes::PageScheme;
+use vectors::tally::{Tally, each_case};
+use vectors::words::{Words, halves};
 
 // What stands in a destination before the call.
 const FILL: u8 = 0xEE;
@@ -20,22 +16,14 @@ const FILL: u8 = 0xEE;
 const SHOWN: usize = 48;
 
 pub fn run(rt: &HostRuntime) -> anyhow::Result<()> {
-    let text = fs::read_to_string(rt, "writers.txt")?;
-    let mut tally = Tally::new("writers");
-    for line in text.as_str().lines() {
-        compare(rt, line, &mut tally)?;
-    }
-    tally.print(rt)
-}
-
-fn compare(rt: &HostRuntime, line: &str, tally: &mut Tally) -> anyhow::Result<()> {
-    if is_remark(line) {
-        return Ok(());
-    }
-    let (case, answer) = halves(line)?;
-    let want = without_hash(rt.alloc(), answer)?;
-    let got = written(rt.alloc(), case)?;
-    tally.compare(rt, case, want.as_str(), got.as_str())
+    let mut tally = Tally::new(rt, "writers");
+    each_case(rt, "writers.txt", |line| {
+        let (case, answer) = halves(line)?;
+        let want = without_hash(rt.alloc(), answer)?;
+        let got = written(rt.alloc(), case)?;
+        tally.compare(case, want.as_str(), got.as_str())
+    })?;
+    tally.print()
 }
 
 // An answer of many bytes has their SHA-256 and their fold; the fold alone is compared.
@@ -43,116 +31,100 @@ fn without_hash(heap: Global, answer: &str) -> anyhow::Result<String> {
     let Some((count, rest)) = answer.split_once(" sha256 ") else {
         return Ok(String::from_str(heap, answer)?);
     };
-    let Some((_hash, fold)) = rest.split_once(" fold ") else {
-        return Err(anyhow!("an answer has no fold"));
-    };
+    let (_hash, fold) = rest.split_once(" fold ").context("an answer has no fold")?;
     Ok(format!(in heap; "{count} fold {fold}")?)
 }
 
 fn written(heap: Global, case: &str) -> anyhow::Result<String> {
-    let mut words = case.split_whitespace();
-    match word(&mut words)? {
-        "packet" => packet_written(heap, &mut words),
-        "pages" => pages_written(heap, &mut words),
-        _ => Err(anyhow!("a case of no known sort")),
+    let mut words = Words::of(heap, case);
+    match words.word()? {
+        "packet" => packet_case(&mut words),
+        "pages" => pages_case(&mut words),
+        _ => bail!("a case of no known sort"),
     }
 }
 
-fn packet_written(heap: Global, words: &mut SplitWhitespace<'_>) -> anyhow::Result<String> {
-    let status = byte(words)?;
-    let kind = byte(words)?;
-    let mut out = destination(heap, number(words)?)?;
-    let data = source(heap, word(words)?)?;
-    let answer = write(status, kind, data.as_slice(), out.as_mut_slice());
-    answer_text(heap, answer, out.as_slice())
+fn packet_case(words: &mut Words<'_>) -> anyhow::Result<String> {
+    let status = words.byte()?;
+    let kind = words.byte()?;
+    let room = words.number::<u32>()?;
+    let data = words.source()?;
+    Ok(packet_written(words.heap, status, kind, room, data.as_slice())?)
 }
 
-fn pages_written(heap: Global, words: &mut SplitWhitespace<'_>) -> anyhow::Result<String> {
-    let scheme = byte(words)?;
-    let key = number(words)?;
-    let mut out = destination(heap, number(words)?)?;
-    let report = source(heap, word(words)?)?;
-    let answer = match scheme {
-        0x57 => write_report::<RawData>(key, report.as_slice(), out.as_mut_slice()),
-        0x64 => write_report::<AppFile>(key, report.as_slice(), out.as_mut_slice()),
-        _ => return Err(anyhow!("no scheme has this type")),
-    };
-    answer_text(heap, answer, out.as_slice())
+fn pages_case(words: &mut Words<'_>) -> anyhow::Result<String> {
+    let scheme = words.scheme()?;
+    let key = words.number::<u32>()?;
+    let room = words.number::<u32>()?;
+    let report = words.source()?;
+    Ok(pages_written(words.heap, scheme, key, room, report.as_slice())?)
 }
 
-fn destination(heap: Global, room: u32) -> anyhow::Result<Vec<u8>> {
-    let mut out = Vec::new(heap);
-    for _ in 0..room {
-        out.push(FILL)?;
-    }
-    Ok(out)
+// What the packet writer makes of a destination of so many bytes.
+pub fn packet_written(
+    heap: Global,
+    status: u8,
+    kind: u8,
+    room: u32,
+    data: &[u8],
+) -> Result<String, AllocError> {
+    let mut out = vec![in heap; FILL; room as usize]?;
+    let answer = write(status, kind, data, out.as_mut_slice());
+    let out = out.as_slice();
+    WriterAnswer { answer, out }.to_string(heap)
 }
 
-// Hex digits, `-` for none, or rule:N for N bytes by a rule.
-fn source(heap: Global, text: &str) -> anyhow::Result<Vec<u8>> {
-    if text == "-" {
-        return Ok(Vec::new(heap));
-    }
-    match text.strip_prefix("rule:") {
-        Some(count) => by_rule(heap, count.parse::<u32>()?),
-        None => from_hex(heap, text),
-    }
-}
-
-// Byte i is 7 i + 13 (i div 256) + 5, modulo 256.
-fn by_rule(heap: Global, count: u32) -> anyhow::Result<Vec<u8>> {
-    let mut bytes = Vec::new(heap);
-    for i in 0..count {
-        let sum = i
-            .wrapping_mul(7)
-            .wrapping_add((i / 256).wrapping_mul(13))
-            .wrapping_add(5);
-        bytes.push((sum % 256) as u8)?;
-    }
-    Ok(bytes)
+// What the page writer makes of a destination of so many bytes.
+pub fn pages_written(
+    heap: Global,
+    scheme: PageScheme,
+    key: u32,
+    room: u32,
+    report: &[u8],
+) -> Result<String, AllocError> {
+    let mut out = vec![in heap; FILL; room as usize]?;
+    let answer = scheme.write(key, report, out.as_mut_slice());
+    let out = out.as_slice();
+    WriterAnswer { answer, out }.to_string(heap)
 }
 
 // Begins with 0; each byte makes h to 31 h + byte, modulo 2^32.
 fn fold(bytes: &[u8]) -> u32 {
-    let mut h: u32 = 0;
-    for byte in bytes {
-        h = h.wrapping_mul(31).wrapping_add(u32::from(*byte));
-    }
-    h
+    bytes.iter().fold(0u32, |h, byte| {
+        h.wrapping_mul(31).wrapping_add(u32::from(*byte))
+    })
 }
 
 fn is_untouched(bytes: &[u8]) -> bool {
-    for byte in bytes {
-        if *byte != FILL {
-            return false;
-        }
-    }
-    true
+    bytes.iter().all(|byte| *byte == FILL)
 }
 
-// The number of bytes written, and the bytes or their fold, if all behind them is untouched.
-fn answer_text(
-    heap: Global,
+// A writer's answer and its destination: the number of bytes written, and the bytes or their fold, if all behind them
+// is untouched.
+#[derive(Clone, Copy)]
+struct WriterAnswer<'a> {
     answer: Result<usize, WriteFault>,
-    out: &[u8],
-) -> anyhow::Result<String> {
-    let count = match answer {
-        Ok(count) => count,
-        Err(_) => 0,
-    };
-    let (Some(bytes), Some(behind)) = (out.get(0..count), out.get(count..)) else {
-        return Ok(String::from_str(heap, "more bytes than there is room for")?);
-    };
-    if !is_untouched(behind) {
-        return Ok(String::from_str(heap, "bytes changed behind those written")?);
+    out: &'a [u8],
+}
+
+impl fmt::Display for WriterAnswer<'_> {
+    fn fmt<W: fmt::Write>(&self, f: &mut fmt::Formatter<W>) -> fmt::Result {
+        let count = self.answer.unwrap_or(0);
+        let Some((bytes, behind)) = self.out.split_at_checked(count) else {
+            return write!(f, "more bytes than there is room for");
+        };
+        if !is_untouched(behind) {
+            return write!(f, "bytes changed behind those written");
+        }
+        if let Err(fault) = self.answer {
+            let refused = Refused(fault.refusal());
+            return write!(f, "{refused}");
+        }
+        if count > SHOWN {
+            let fold = fold(bytes);
+            return write!(f, "{count} fold {fold}");
+        }
+        let bytes = Hex(bytes);
+        write!(f, "{count} {bytes}")
     }
-    if let Err(fault) = answer {
-        return refusal_text(heap, fault.refusal());
-    }
-    if count > SHOWN {
-        let fold = fold(bytes);
-        return Ok(format!(in heap; "{count} fold {fold}")?);
-    }
-    let bytes = Hex(bytes);
-    Ok(format!(in heap; "{count} {bytes}")?)
 }

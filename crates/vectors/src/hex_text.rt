@@ -1,26 +1,12 @@
-// Bytes from hex digits.
-use anyhow::anyhow;
-use std::alloc::Global;
+// Bytes from text.
+use anyhow::{Context, ensure};
+use std::alloc::{AllocError, Global};
 
-fn digit(b: u8) -> Option<u8> {
-    match b {
-        b'0'..=b'9' => Some(b - b'0'),
-        b'a'..=b'f' => Some(b - b'a' + 10),
-        b'A'..=b'F' => Some(b - b'A' + 10),
-        _ => None,
-    }
-}
-
-// Adds the bytes that the text has, two digits each; white space means nothing.
+// Adds the bytes that the text has, two hex digits each; white space means nothing.
 pub fn add_hex(bytes: &mut Vec<u8>, text: &str) -> anyhow::Result<()> {
     let mut high = None;
-    for b in text.bytes() {
-        if b.is_ascii_whitespace() {
-            continue;
-        }
-        let Some(low) = digit(b) else {
-            return Err(anyhow!("not a hex digit"));
-        };
+    for digit in text.chars().filter(|digit| !digit.is_ascii_whitespace()) {
+        let low = digit.to_digit(16).context("not a hex digit")? as u8;
         high = match high {
             None => Some(low),
             Some(first) => {
@@ -29,9 +15,7 @@ pub fn add_hex(bytes: &mut Vec<u8>, text: &str) -> anyhow::Result<()> {
             }
         };
     }
-    if high.is_some() {
-        return Err(anyhow!("half a byte"));
-    }
+    ensure!(high.is_none(), "half a byte");
     Ok(())
 }
 
@@ -39,6 +23,35 @@ pub fn from_hex(heap: Global, text: &str) -> anyhow::Result<Vec<u8>> {
     let mut bytes = Vec::new(heap);
     add_hex(&mut bytes, text)?;
     Ok(bytes)
+}
+
+// Hex digits, `-` for none.
+pub fn bytes_of(heap: Global, text: &str) -> anyhow::Result<Vec<u8>> {
+    if text == "-" {
+        return Ok(Vec::new(heap));
+    }
+    from_hex(heap, text)
+}
+
+// Hex digits, `-` for none, or rule:N for N bytes by a rule.
+pub fn source(heap: Global, text: &str) -> anyhow::Result<Vec<u8>> {
+    match text.strip_prefix("rule:") {
+        Some(count) => Ok(by_rule(heap, count.parse::<u32>()?)?),
+        None => bytes_of(heap, text),
+    }
+}
+
+// Byte i is 7 i + 13 (i div 256) + 5, modulo 256.
+fn by_rule(heap: Global, count: u32) -> Result<Vec<u8>, AllocError> {
+    (0..count)
+        .map(|i| {
+            let sum = i
+                .wrapping_mul(7)
+                .wrapping_add((i / 256).wrapping_mul(13))
+                .wrapping_add(5);
+            (sum % 256) as u8
+        })
+        .collect(heap)
 }
 
 // The bytes of the part of a text that begins with a line of these two words, up to the next such line.

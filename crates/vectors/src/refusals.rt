@@ -2,17 +2,31 @@
 use answers::RefusalText;
 use records::fault::RecordFault;
 use refusal::Refusal;
-use std::alloc::Global;
+use std::fmt;
 
-pub fn refusal_text(heap: Global, refusal: Refusal) -> anyhow::Result<String> {
-    let refusal = RefusalText(refusal);
-    Ok(format!(in heap; "refused {refusal}")?)
+// `refused`, and the refusal.
+#[derive(Clone, Copy)]
+pub struct Refused(pub Refusal);
+
+impl fmt::Display for Refused {
+    fn fmt<W: fmt::Write>(&self, f: &mut fmt::Formatter<W>) -> fmt::Result {
+        let refusal = RefusalText(self.0);
+        write!(f, "refused {refusal}")
+    }
 }
 
-// 0, or the refusal.
-pub fn reading_text(heap: Global, reading: Result<(), RecordFault>) -> anyhow::Result<String> {
-    match reading {
-        Ok(()) => Ok(String::from_str(heap, "0")?),
-        Err(fault) => refusal_text(heap, fault.refusal()),
+// A reading: 0, or the refusal.
+#[derive(Clone, Copy)]
+pub struct Reading(pub Result<(), RecordFault>);
+
+impl fmt::Display for Reading {
+    fn fmt<W: fmt::Write>(&self, f: &mut fmt::Formatter<W>) -> fmt::Result {
+        match self.0 {
+            Ok(()) => write!(f, "0"),
+            Err(fault) => {
+                let refused = Refused(fault.refusal());
+                write!(f, "{refused}")
+            }
+        }
     }
 }

@@ -1,15 +1,19 @@
 // What the cases of a group came to.
+use crate::words::is_remark;
+use std::fs;
 
 #[derive(Drop)]
-pub struct Tally {
+pub struct Tally<'a> {
+    rt: &'a HostRuntime,
     group: &'static str,
     compared: u32,
     differing: u32,
 }
 
-impl Tally {
-    pub fn new(group: &'static str) -> Tally {
+impl<'a> Tally<'a> {
+    pub fn new(rt: &'a HostRuntime, group: &'static str) -> Tally<'a> {
         Tally {
+            rt,
             group,
             compared: 0,
             differing: 0,
@@ -17,79 +21,62 @@ impl Tally {
     }
 
     // Counts a case, and prints it where it differs.
-    pub fn compare(
-        &mut self,
-        rt: &HostRuntime,
-        case: &str,
-        want: &str,
-        got: &str,
-    ) -> anyhow::Result<()> {
+    pub fn compare(&mut self, case: &str, want: &str, got: &str) -> anyhow::Result<()> {
         self.compared = self.compared.saturating_add(1);
-        if is_same(want, got) {
+        if want == got {
             return Ok(());
         }
-        self.differs(rt, case, want, got)
+        self.differs(case, want, got)
     }
 
     // Counts a case whose answer is lines, and prints the first line that differs.
-    pub fn compare_lines(
-        &mut self,
-        rt: &HostRuntime,
-        case: &str,
-        want: &str,
-        got: &str,
-    ) -> anyhow::Result<()> {
+    pub fn compare_lines(&mut self, case: &str, want: &str, got: &str) -> anyhow::Result<()> {
         self.compared = self.compared.saturating_add(1);
-        if is_same(want, got) {
+        if want == got {
             return Ok(());
         }
         let at = lines_alike(want, got);
-        self.differs(rt, case, line_at(want, at), line_at(got, at))
+        self.differs(case, line_at(want, at), line_at(got, at))
     }
 
-    fn differs(
-        &mut self,
-        rt: &HostRuntime,
-        case: &str,
-        want: &str,
-        got: &str,
-    ) -> anyhow::Result<()> {
+    fn differs(&mut self, case: &str, want: &str, got: &str) -> anyhow::Result<()> {
         self.differing = self.differing.saturating_add(1);
         let group = self.group;
-        println!(rt; "{group}: {case}: expected {want}, got {got}")?;
+        println!(self.rt; "{group}: {case}: expected {want}, got {got}")?;
         Ok(())
     }
 
-    pub fn print(&self, rt: &HostRuntime) -> anyhow::Result<()> {
+    pub fn print(&self) -> anyhow::Result<()> {
         let group = self.group;
         let compared = self.compared;
         let differing = self.differing;
-        println!(rt; "{group}: {compared} compared, {differing} differ")?;
+        println!(self.rt; "{group}: {compared} compared, {differing} differ")?;
         Ok(())
     }
-}
-
-fn is_same(a: &str, b: &str) -> bool {
-    a == b
 }
 
 // How many lines at the front are the same.
 fn lines_alike(a: &str, b: &str) -> usize {
-    let mut at: usize = 0;
-    for (x, y) in a.lines().zip(b.lines()) {
-        if x != y {
-            return at;
-        }
-        at = at.saturating_add(1);
-    }
-    at
+    a.lines().zip(b.lines()).take_while(|(x, y)| x == y).count()
 }
 
 fn line_at(text: &str, at: usize) -> &str {
-    for (i, line) in text.lines().enumerate() {
-        if i == at {
-            return line;
+    text.lines().nth(at).unwrap_or("no more lines")
+}
+
+// Goes over the cases of a file, a line each.
+pub fn each_case<F: FnMut(&str) -> anyhow::Result<()>>(
+    rt: &HostRuntime,
+    file: &str,
+    mut visit: F,
+) -> anyhow::Result<()>
+    requires { F.IsAlwaysCallable visit }
+{
+    let text = fs::read_to_string(rt, file)?;
+    for line in text.as_str().lines() {
+        if !is_remark(line) {
+            visit(line)?;
         }
     }
-    "no more lines"
+    Ok(())
 }

@@ -1,0 +1,39 @@
+// What a page scheme makes of keys, headers and reports, as text.
+use paging::fault::PageFault;
+use reading::read_report;
+use records::fault::RecordFault;
+use records::kind::Kind;
+use std::fmt;
+use vectors::refusals::Refused;
+use vectors::schemes::PageScheme;
+
+// The kind that a scheme gives a key.
+pub fn kind_name(scheme: PageScheme, key: u32) -> &'static str {
+    match scheme.means(key) {
+        Kind::Position => "position",
+        Kind::Survey => "survey",
+        Kind::Application => "application",
+        Kind::None => "none",
+    }
+}
+
+// The reading that a pull gives with a report.
+pub fn report_reading(scheme: PageScheme, key: u32, body: &[u8]) -> Result<(), RecordFault> {
+    read_report(scheme.means(key), key, body)
+}
+
+// KEY PAGE TOTAL, or the refusal.
+#[derive(Clone, Copy)]
+pub struct HeaderText(pub Result<(u32, u16, u16), PageFault>);
+
+impl fmt::Display for HeaderText {
+    fn fmt<W: fmt::Write>(&self, f: &mut fmt::Formatter<W>) -> fmt::Result {
+        match self.0 {
+            Ok((key, page, total)) => write!(f, "{key} {page} {total}"),
+            Err(fault) => {
+                let refused = Refused(fault.refusal());
+                write!(f, "{refused}")
+            }
+        }
+    }
+}
