@@ -16,22 +16,23 @@ pub trait Line {
     // The first waiting byte, which is removed, or none where nothing waits.
     fn take(&mut self) -> Option<u8>
         ensures { Taken result (waiting self.old) (waiting self.new) };
+}
 
-    // Takes bytes into the places, from the first place on, until all are filled or nothing waits, and answers
-    // how many it took.
-    final fn take_into(&mut self, places: &mut [u8]) -> usize
-        ensures count { result ≡ min (length places.old) (length (waiting self.old)) }
-        ensures places { places.new ≡ take result (waiting self.old) ++ drop result places.old }
-        ensures waits { waiting self.new ≡ drop result (waiting self.old) }
-    {
-        for (taken, place) in places.iter_mut().enumerate() {
-            let Some(b) = self.take() else {
-                return taken;
-            };
-            *place = b;
-        }
-        places.len()
+// Takes bytes from a line into the places, from the first place on, until all are filled or nothing waits, and
+// answers how many it took. (Inlined, the loop tests its end by a sum, which costs a fifth of the speed.)
+#[inline(never)]
+pub fn take_into<L: Line>(line: &mut L, places: &mut [u8]) -> usize
+    ensures count { result ≡ min (length places.old) (length (L.Line.waiting line.old)) }
+    ensures places { places.new ≡ take result (L.Line.waiting line.old) ++ drop result places.old }
+    ensures waits { L.Line.waiting line.new ≡ drop result (L.Line.waiting line.old) }
+{
+    for (taken, place) in places.iter_mut().enumerate() {
+        let Some(b) = line.take() else {
+            return taken;
+        };
+        *place = b;
     }
+    places.len()
 }
 
 // Raw bytes in the caller's memory; those before `at` are taken.

@@ -6,7 +6,7 @@ ghost use Rattle.held.specs.Streams.{head_of, stops, passed, seen, unseen, found
 ghost use Rattle.held.specs.Views.{held_in};
 
 use super::HeldBytes;
-use line::Line;
+use line::{Line, take_into};
 
 // The first byte of a packet.
 const START: u8 = 2;
@@ -108,7 +108,7 @@ impl HeldBytes {
             return;
         }
         self.make_room(n);
-        let taken = line.take_into(&mut self.bytes[self.end..self.start + n]);
+        let taken = take_into(line, &mut self.bytes[self.end..self.start + n]);
         self.end += taken;
     }
 
