@@ -2,7 +2,6 @@
 ghost use Rattle.std.specs.Prelude.{◌≡◌, ℕ, ◌≤◌, length};
 ghost use Rattle.reading.specs.Readings.{reading as reading_by};
 ghost use Rattle.fixes.specs.Views.{board_of, enter};
-ghost use Rattle.joining.specs.Views.{held_of};
 ghost use Rattle.protocol.specs.Pulls.{put, board_with};
 ghost use Rattle.link.specs.Faults.{reading_in};
 ghost use Rattle.link.specs.Fixing.{fix_of};
@@ -54,7 +53,7 @@ fn join<S: Scheme>(
     buffer: &mut [u8],
 ) -> Answer
     requires { 8064 ≤ length buffer.old }
-    ensures { record { answer = answer_of result; held = held_of to.new; board = board_of board.new; buffer = buffer.new } ≡ joint reading_by fix_of enter S.Scheme.model «data».now (held_of to.old) (board_of board.old) buffer.old }
+    ensures { record { answer = answer_of result; held = to.new.held; board = board_of board.new; buffer = buffer.new } ≡ joint reading_by fix_of enter S.Scheme.model «data».now to.old.held (board_of board.old) buffer.old }
 {
     match to.add(data) {
         Ok(Step::More(number, total)) => Answer::Page {
@@ -87,7 +86,7 @@ pub(crate) fn send<A: Scheme, B: Scheme>(
 ) -> Answer
     requires room { 8064 ≤ length buffer.old }
     requires short { length packet.data.now ≤ 255 }
-    ensures { record { answer = answer_of result; first = held_of first.new; second = held_of second.new; board = board_of board.new; buffer = buffer.new } ≡ route A.Scheme.model B.Scheme.model reading_by fix_of enter (held_of first.old) (held_of second.old) (board_of board.old) (record { status = packet.entry.status; type = packet.entry.kind; content = packet.entry.data.now }) buffer.old }
+    ensures { record { answer = answer_of result; first = first.new.held; second = second.new.held; board = board_of board.new; buffer = buffer.new } ≡ route A.Scheme.model B.Scheme.model reading_by fix_of enter first.old.held second.old.held (board_of board.old) (record { status = packet.entry.status; type = packet.entry.kind; content = packet.entry.data.now }) buffer.old }
 {
     if packet.kind == A::TYPE {
         return join(first, board, packet.data, buffer);
