@@ -16,6 +16,11 @@ pub record Held : Type 0 where
 abbrev pub no_pages : Held
 no_pages = record { key = 0; total = 0; count = 0; joined = [] }
 
+-- what a collector holds: its pages, and the bytes in its store, which are theirs where there are any
+pub record Collection : Type 0 where
+  pub held : Held
+  pub bytes : List ℕ
+
 -- what a page makes of the pages held: more pages, a whole report, or a refusal
 pub data Joined : Type 0 where
   more : (number total : ℕ) → Joined

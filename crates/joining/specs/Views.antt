@@ -2,7 +2,6 @@
 use Rattle.std.specs.Prelude.{◌≡◌, ℕ, List, [], Option, Some, None, Ok, Err, Result}
 use Rattle.paging.specs.declared.fault.PageFault.{PageFault}
 use Rattle.paging.specs.declared.header.Header.{Header}
-use Rattle.joining.specs.declared.collector.Collector.{Collector}
 use Rattle.joining.specs.declared.collector.Step.{Step}
 use Rattle.joining.specs.declared.collector.Step.TheVariants.{More, Whole}
 use Rattle.paging.specs.Headers.{page_refusal}
@@ -12,9 +11,6 @@ use Rattle.joining.specs.Joining.{Held, no_pages, Joined, Collected, more, whole
 abbrev pub held_by : Option Header → List ℕ → Held
 held_by None bytes = no_pages
 held_by (Some h) bytes = record { key = h.key; total = h.total; count = h.page; joined = bytes }
-
-abbrev pub held_of : {X : Type 0} → Collector X → Held
-held_of c = held_by c.last c.store
 
 -- what a collector answered, with the bytes in its store after it
 abbrev pub joined_of : Result Step PageFault → List ℕ → Joined

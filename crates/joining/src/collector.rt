@@ -1,13 +1,13 @@
 // The pages held of one scheme, written once for every scheme.
 ghost use Rattle.std.specs.Prelude.{◌≡◌, ◌≤◌, [], length, ◌≢◌};
-ghost use Rattle.joining.specs.Joining.{collected, next_page, no_pages};
-ghost use Rattle.joining.specs.Views.{held_of, joined_of, told_by, Emptied};
+ghost use Rattle.joining.specs.Joining.{Collection, collected, next_page, no_pages};
+ghost use Rattle.joining.specs.Views.{held_by, joined_of, told_by, Emptied};
 
 use crate::store::Store;
 use paging::fault::PageFault;
 use paging::header::Header;
 use paging::scheme::Scheme;
-use std::marker::PhantomData;
+use std::marker::{Model, PhantomData};
 
 #[derive(Clone, Copy, Debug, PartialEq, Eq)]
 pub enum Step {
@@ -23,9 +23,16 @@ pub struct Collector<S> {
     of: PhantomData<S>,
 }
 
+// Contracts see the pages held and the bytes in the store.
+impl<S> Model for Collector<S> {
+    ghost Value = { Collection };
+
+    ghost view = { λ c. record { held = held_by c.last c.store; bytes = c.store } };
+}
+
 impl<S: Scheme> Collector<S> {
     pub fn new() -> Collector<S>
-        ensures { held_of result ≡ no_pages }
+        ensures { result.held ≡ no_pages }
     {
         Collector {
             store: Store::new(),
@@ -36,8 +43,8 @@ impl<S: Scheme> Collector<S> {
 
     // Drops the pages held.
     pub fn drop_pages(&mut self)
-        ensures held { held_of self.new ≡ no_pages }
-        ensures bytes { self.new.store ≡ [] }
+        ensures held { self.new.held ≡ no_pages }
+        ensures bytes { self.new.bytes ≡ [] }
     {
         self.store.clear();
         self.last = None;
@@ -46,14 +53,14 @@ impl<S: Scheme> Collector<S> {
     // Whether a page that begins no report comes behind those held.
     fn follows(&self, header: Header) -> bool
         requires { header.page ≢ 1 }
-        ensures { result ≡ next_page header (held_of self.now) }
+        ensures { result ≡ next_page header self.now.held }
     {
         self.last.and_then(Header::next) == Some(header)
     }
 
     // Joins a page to those held, which a refusal leaves to be dropped.
     fn join(&mut self, data: &[u8]) -> Result<Step, PageFault>
-        ensures { told_by result self.new.store (held_of self.new) ≡ collected S.Scheme.model «data».now (held_of self.old) }
+        ensures { told_by result self.new.bytes self.new.held ≡ collected S.Scheme.model «data».now self.old.held }
     {
         let (key, page, total) = S::read(data)?;
         let header = Header { key, page, total };
@@ -75,8 +82,8 @@ impl<S: Scheme> Collector<S> {
     // Joins a page to those held, or drops them with it. A whole report stays in the store until the next
     // page comes.
     pub fn add(&mut self, data: &[u8]) -> Result<Step, PageFault>
-        ensures page { record { joined = joined_of result self.new.store; held = held_of self.new } ≡ collected S.Scheme.model «data».now (held_of self.old) }
-        ensures refused { Emptied result self.new.store }
+        ensures page { record { joined = joined_of result self.new.bytes; held = self.new.held } ≡ collected S.Scheme.model «data».now self.old.held }
+        ensures refused { Emptied result self.new.bytes }
     {
         let joined = self.join(data);
         if joined.is_err() {
@@ -87,7 +94,7 @@ impl<S: Scheme> Collector<S> {
 
     // The bytes in the store: behind a whole report that report, behind a refused page none.
     pub fn report(&self) -> &[u8]
-        ensures value { result.now ≡ self.now.store }
+        ensures value { result.now ≡ self.now.bytes }
         ensures len { length result.now ≤ 8064 }
     {
         self.store.bytes()

@@ -2,7 +2,6 @@
 ghost use Rattle.std.specs.Prelude.{◌≡◌, ℕ, ◌≤◌, length};
 ghost use Rattle.reading.specs.Readings.{reading as reading_by};
 ghost use Rattle.fixes.specs.Views.{board_of, enter};
-ghost use Rattle.joining.specs.Views.{held_of};
 ghost use Rattle.protocol.specs.Pulls.{put, board_with};
 ghost use Rattle.link.specs.Faults.{reading_in};
 ghost use Rattle.link.specs.Fixing.{fix_of};
@@ -26,8 +25,7 @@ fn copy(body: &[u8], buffer: &mut [u8; REPORT])
     requires { length body.now ≤ 8064 }
     ensures { buffer.new ≡ put body.now buffer.old }
 {
-    let n = body.len();
-    buffer[0..n].copy_from_slice(body);
+    buffer[..body.len()].copy_from_slice(body);
 }
 
 // Reads a report, and puts a position that reads on the board.
@@ -61,7 +59,7 @@ fn join<S: Scheme>(
     data: &[u8],
     buffer: &mut [u8; REPORT],
 ) -> Answer
-    ensures { record { answer = answer_of result; held = held_of to.new; board = board_of board.new; buffer = buffer.new } ≡ joint reading_by fix_of enter S.Scheme.model «data».now (held_of to.old) (board_of board.old) buffer.old }
+    ensures { record { answer = answer_of result; held = to.new.held; board = board_of board.new; buffer = buffer.new } ≡ joint reading_by fix_of enter S.Scheme.model «data».now to.old.held (board_of board.old) buffer.old }
 {
     match to.add(data) {
         Ok(Step::More(number, total)) => Answer::Page {
@@ -93,7 +91,7 @@ pub(crate) fn send<A: Scheme, B: Scheme>(
     buffer: &mut [u8; REPORT],
 ) -> Answer
     requires { length packet.data.now ≤ 255 }
-    ensures { record { answer = answer_of result; first = held_of first.new; second = held_of second.new; board = board_of board.new; buffer = buffer.new } ≡ route A.Scheme.model B.Scheme.model reading_by fix_of enter (held_of first.old) (held_of second.old) (board_of board.old) (record { status = packet.entry.status; type = packet.entry.kind; content = packet.entry.data.now }) buffer.old }
+    ensures { record { answer = answer_of result; first = first.new.held; second = second.new.held; board = board_of board.new; buffer = buffer.new } ≡ route A.Scheme.model B.Scheme.model reading_by fix_of enter first.old.held second.old.held (board_of board.old) (record { status = packet.entry.status; type = packet.entry.kind; content = packet.entry.data.now }) buffer.old }
 {
     if packet.kind == A::TYPE {
         return join(first, board, packet.data, buffer);

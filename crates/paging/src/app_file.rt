@@ -41,15 +41,17 @@ impl Scheme for AppFile {
     ghost lawful = { AppLaws.lawful };
 
     fn read(data: &[u8]) -> Result<(u32, u16, u16), PageFault> {
-        if data.len() < 3 {
+        let [block, index, greatest, ..] = *data else {
             return Err(PageFault::Short(data.len()));
-        }
-        let index = data[1] as u16;
-        let greatest = data[2] as u16;
+        };
         if index > greatest || greatest > 31 {
             return Err(PageFault::Unfit(2));
         }
-        Ok((data[0] as u32, index + 1, greatest + 1))
+        Ok((
+            u32::from(block),
+            u16::from(index) + 1,
+            u16::from(greatest) + 1,
+        ))
     }
 
     fn write(header: Header, out: &mut [u8]) -> bool {

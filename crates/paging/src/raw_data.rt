@@ -41,16 +41,15 @@ impl Scheme for RawData {
     ghost lawful = { RawLaws.lawful };
 
     fn read(data: &[u8]) -> Result<(u32, u16, u16), PageFault> {
-        if data.len() < 4 {
+        let [record, paging, reply, flags, ..] = *data else {
             return Err(PageFault::Short(data.len()));
-        }
-        let page = data[1] as u16 / 16;
-        let total = data[1] as u16 % 16;
+        };
+        let page = u16::from(paging / 16);
+        let total = u16::from(paging % 16);
         if page == 0 || page > total {
             return Err(PageFault::Unfit(1));
         }
-        let key = data[0] as u32 * 65536 + data[2] as u32 * 256 + data[3] as u32;
-        Ok((key, page, total))
+        Ok((u32::from_be_bytes([0, record, reply, flags]), page, total))
     }
 
     fn write(header: Header, out: &mut [u8]) -> bool {
@@ -58,10 +57,11 @@ impl Scheme for RawData {
             return false;
         }
         let Header { key, page, total } = header;
-        out[0] = (key / 65536) as u8;
+        let [_, record, reply, flags] = key.to_be_bytes();
+        out[0] = record;
         out[1] = (page * 16 + total) as u8;
-        out[2] = (key / 256 % 256) as u8;
-        out[3] = (key % 256) as u8;
+        out[2] = reply;
+        out[3] = flags;
         true
     }
 

@@ -1,7 +1,6 @@
 use Rattle.std.proofs.Common.{◌≡◌, ◌+◌, false, ◌++◌, length, get_or, sym, refl, ap, ◌∙◌}
 use Rattle.packet.specs.Packets.{Packet, front, lawful, claimed, parsed}
 use Rattle.packet.specs.Reads.{packet_refusal}
-use Rattle.joining.specs.Views.{held_of}
 use Rattle.link.specs.Faults.{link_refusal}
 use Rattle.protocol.specs.Links.{refused}
 use Rattle.reading.specs.Readings.{reading}
@@ -53,5 +52,5 @@ returns-in-Ok g c =
     let p : Packet = record { status = q.status; type = q.kind; content = q.data.now } in
     let same : p ≡ parsed x = same_packet q.status q.kind q.data.now x is.1 is.2 is.3 in
     opened_lawful a b reading fix_of enter l v buf h2 v2 f p (length q.data.now + 6) (held_in c.pass-in-Ok.new.self)
-    (record { answer = answer_of c.send-answer.result; first = held_of c.send-answer.new.first; second = held_of c.send-answer.new.second; board = board_of c.send-answer.new.board; buffer = c.send-answer.new.buffer })
+    (record { answer = answer_of c.send-answer.result; first = c.send-answer.new.first.held; second = c.send-answer.new.second.held; board = board_of c.send-answer.new.board; buffer = c.send-answer.new.buffer })
     (ap front (sym c.all.ensures) ∙ is.0 ∙ ap (λ y. lawful (parsed y)) c.all.ensures) (same ∙ ap parsed c.all.ensures) refl c.pass-in-Ok.ensures c.send-answer.ensures
