@@ -19,8 +19,7 @@ pub trait Line {
 }
 
 // Takes bytes from a line into the places, from the first place on, until all are filled or nothing waits, and
-// answers how many it took. (Inlined, the loop tests its end by a sum, which costs a fifth of the speed.)
-#[inline(never)]
+// answers how many it took.
 pub fn take_into<L: Line>(line: &mut L, places: &mut [u8]) -> usize
     ensures count { result ≡ min (length places.old) (length (L.Line.waiting line.old)) }
     ensures places { places.new ≡ take result (L.Line.waiting line.old) ++ drop result places.old }
