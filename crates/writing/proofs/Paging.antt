@@ -1,5 +1,5 @@
 -- One page of a report, written to what is left of the destination.
-use Rattle.std.proofs.Common.{◌≡◌, ℕ, ◌+◌, ◌-◌, ◌*◌, ◌<◌, ◌≤◌, min, List, [], ◌++◌, length, take, drop, Ok, sym, ap, ◌∙◌, add-one, append_assoc, append-nil, length-append, arith}
+use Rattle.std.proofs.Common.{◌≡◌, ℕ, ◌+◌, ◌-◌, ◌*◌, ◌<◌, ◌≤◌, min, List, [], ◌++◌, length, take, drop, Ok, refl, ap, ◌∙◌, add-one, append_assoc, append-nil, length-append, arith}
 use borrow.Rule.Slice.PartMut.{put_mid}
 use Rattle.std.proofs.lemmas.List.{length-drop, take_min, take_at, drop_at, drop_all, drop-drop, take_rest}
 use Rattle.std.proofs.lemmas.Grind.{common_steps}
@@ -15,15 +15,10 @@ one_more : (P F out0 out rest : List ℕ) (at n : ℕ) → at ≡ length P → n
     → rest ≡ F ++ drop n (take (length out - at) (drop at out))
     → put_mid at (length out - at) out rest ≡ (P ++ F) ++ drop (at + n) out0
 one_more P F out0 out rest at n a b e w =
-    let front : take at out ≡ P = ap (take at) e ∙ take_at P (drop at out0) at (sym a) in
-    let back : drop at out ≡ drop at out0 = ap (drop at) e ∙ drop_at P (drop at out0) at (sym a) in
-    let none : drop (length out - at) (drop at out) ≡ [] = drop_all (length out - at) (drop at out) (simp length-drop (omega arith)) in
-    let all : rest ≡ F ++ drop (at + n) out0 =
-    w ∙ ap (λ l. F ++ drop n l) (take_rest out at ∙ back) ∙ ap (λ l. F ++ l) (drop-drop n at out0) in
-    ap (λ l. l ++ (rest ++ drop (length out - at) (drop at out))) front
-    ∙ ap (λ l. P ++ (rest ++ l)) none
-    ∙ ap (λ l. P ++ l) (append-nil rest ∙ all)
-    ∙ sym (append_assoc P F (drop (at + n) out0))
+    let back : drop at out ≡ drop at out0 = grind (arith, drop_at) in
+    let front : take at out ≡ P = grind (arith, take_at) in
+    let none : drop (length out - at) (drop at out) ≡ [] = grind (arith, drop_all, length-drop) in
+    grind (arith, take_rest, drop-drop, append-nil, append_assoc)
 
 module _ (s : Scheme) (laws : Laws s) (key : ℕ) (report : List ℕ) (low : key < s.keys) (short : length report ≤ s.pages * body_size s)
     (total : ℕ) (is : total ≡ page_count s (length report)) (k : ℕ) (h : k < total) where
@@ -38,7 +33,7 @@ module _ (s : Scheme) (laws : Laws s) (key : ℕ) (report : List ℕ) (low : key
       → take (end - k * body) (drop (k * body) report) ≡ part_of s report k
   part_is body end b e =
       let m : end - k * body ≡ min body (length (drop (k * body) report)) = omega (arith, length-drop (k * body) report) in
-      ap (λ i. take i (drop (k * body) report)) m ∙ take_min body (drop (k * body) report) ∙ ap (λ i. take i (drop (k * i) report)) b
+      rw (m, take_min, b) refl
 
   -- what was laid is the page's data
   pub content_is : (body end size : ℕ) (part bytes blank : List ℕ) → part ≡ take (end - k * body) (drop (k * body) report)
@@ -46,9 +41,9 @@ module _ (s : Scheme) (laws : Laws s) (key : ℕ) (report : List ℕ) (low : key
       → bytes ≡ (s.write (record { key = key; page = k + 1; total = total }) ++ part) ++ drop size blank
       → take size bytes ≡ page.content
   content_is body end size part bytes blank p b e n w =
-      let same : page.content ≡ s.write (record { key = key; page = k + 1; total = total }) ++ part = ap (λ l. s.write (record { key = key; page = k + 1; total = total }) ++ l) (sym (p ∙ part_is body end b e)) in
-      let long : length page.content ≡ size = omega (arith, length_content s laws key report low short total is k h, ap length (p ∙ part_is body end b e)) in
-      ap (take size) (w ∙ ap (λ l. l ++ drop size blank) (sym same)) ∙ take_at page.content (drop size blank) size long
+      let same : part ≡ part_of s report k = p ∙ part_is body end b e in
+      let long = length_content s laws key report low short total is k h in
+      grind (arith, take_at)
 
   module _ (at : ℕ) (out out0 content : List ℕ) (c : content ≡ page.content) (here : at ≡ length (to k)) (same : length out ≡ length out0)
       (room : length (written s key report) ≤ length out0) where
@@ -67,4 +62,4 @@ module _ (s : Scheme) (laws : Laws s) (key : ℕ) (report : List ℕ) (low : key
         let d : done ≡ length (frame page) = let p = page_sent in cc in
         let push : to (k + 1) ≡ to k ++ frame page = ap to (add-one k) ∙ frames_push s key total report k in
         let f : after ≡ frame page ++ drop done rest = rw (t, c) at w in
-        (omega (arith, ap length push, length-append (to k) (frame page)), one_more (to k) (frame page) out0 out after at done here d o f ∙ ap (λ l. l ++ drop (at + done) out0) (sym push))
+        (omega (arith, ap length push, length-append (to k) (frame page)), rw push (one_more (to k) (frame page) out0 out after at done here d o f))
