@@ -41,17 +41,17 @@ pub fn blank_list(heap: Global, places: u32) -> Result<Vec<Signal>, AllocError> 
 }
 
 // Whether all places are as they were before the call.
-pub fn is_blank(places: &[Signal]) -> bool {
+pub(crate) fn is_blank(places: &[Signal]) -> bool {
     places.iter().all(|signal| *signal == BLANK)
 }
 
 // How often an entry stands in a list.
-pub fn times<T: PartialEq>(list: &[T], entry: &T) -> usize {
+pub(crate) fn times<T: PartialEq>(list: &[T], entry: &T) -> usize {
     list.iter().filter(|other| *other == entry).count()
 }
 
 // COUNT, then PRN:SNR for each place used.
-pub fn list_text(heap: Global, count: usize, list: &[Signal]) -> anyhow::Result<String> {
+pub(crate) fn list_text(heap: Global, count: usize, list: &[Signal]) -> anyhow::Result<String> {
     let mut text = format!(in heap; "{count}")?;
     for signal in list.iter().take(count) {
         let signal = SignalText(*signal);
@@ -113,7 +113,7 @@ fn listed(heap: Global, want: &str, count: usize, list: &[Signal]) -> anyhow::Re
 }
 
 // The survey call of a case, with a list of the case's places.
-pub fn ranked_list(words: &mut Words<'_>, want: &str) -> anyhow::Result<String> {
+pub(crate) fn ranked_list(words: &mut Words<'_>, want: &str) -> anyhow::Result<String> {
     let places = words.number::<u32>()?;
     let flags = words.number::<u8>()?;
     let body = words.bytes()?;

@@ -72,7 +72,7 @@ impl Parts {
     }
 
     // The parts with a space between two, `-` for none; where one is refused, the refusal alone.
-    pub fn or_refusal(self, heap: Global) -> Result<String, AllocError> {
+    pub(crate) fn or_refusal(self, heap: Global) -> Result<String, AllocError> {
         match self.refused {
             Some(refused) => refused.to_string(heap),
             None => self
