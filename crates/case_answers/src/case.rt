@@ -1,4 +1,8 @@
 // A case, read from its line.
+use std::alloc::Global;
+use std::io;
+use std::io::ErrorKind;
+use vectors::hex_text::source;
 use vectors::schemes::PageScheme;
 
 // A longer line is printed without its bytes.
@@ -41,6 +45,11 @@ fn number(word: Option<&str>) -> Option<u32> {
 
 pub fn low_byte(number: u32) -> u8 {
     (number % 256) as u8
+}
+
+// Hex digits, `-` for no bytes, or rule:N for N bytes by a rule.
+pub fn bytes_of(heap: Global, word: &str) -> io::Result<Vec<u8>> {
+    source(heap, word).map_err(|_| ErrorKind::InvalidData.into())
 }
 
 // The scheme of a packet type; application files have every type that no scheme has.

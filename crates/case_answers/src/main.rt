@@ -8,18 +8,17 @@ mod case;
 mod ranked;
 mod streams;
 
-use case::{Case, low_byte, read_case, scheme_of};
+use case::{Case, bytes_of, low_byte, read_case, scheme_of};
 use packet::read::read;
+use packet::write::write;
 use record_vectors::record_parts::{Parts, records_text, satellites_text};
 use record_vectors::report_texts::{HeaderText, kind_name, report_reading};
 use records::{position, survey};
 use std::fmt::Display;
 use std::io;
-use std::io::ErrorKind;
 use stream_vectors::packet_text::PacketText;
 use stream_vectors::rank_cases::DoubleText;
-use stream_vectors::writer_cases::{packet_written, pages_written};
-use vectors::hex_text::source;
+use stream_vectors::writer_cases::written_to;
 use vectors::refusals::Reading;
 use vectors::words::is_remark;
 use worked::worked_cases_hold;
@@ -40,9 +39,7 @@ fn print_line(rt: &HostRuntime, line: &str) -> io::Result<()> {
     let Some(case) = read_case(line) else {
         return rt.println("no case");
     };
-    let Ok(bytes) = source(rt.alloc(), case.bytes) else {
-        return Err(ErrorKind::InvalidData.into());
-    };
+    let bytes = bytes_of(rt.alloc(), case.bytes)?;
     let shown = case.shown;
     print!(rt; "{shown} =>")?;
     print_answer(rt, case, bytes.as_slice())
@@ -70,15 +67,15 @@ fn print_answer(rt: &HostRuntime, case: Case<'_>, bytes: &[u8]) -> io::Result<()
         "records" => print_parts(rt, records_text(heap, bytes)?),
         "rank" => ranked::print(rt, first, low_byte(second), bytes),
         "signals" => ranked::print_with_time(rt, low, bytes),
-        "write-packet" => {
-            tell(
-                rt,
-                packet_written(heap, low, low_byte(second), third, bytes)?.as_str(),
-            )
-        }
+        "write-packet" => tell(
+            rt,
+            written_to(heap, third, |out| {
+                write(low, low_byte(second), bytes, out)
+            })?,
+        ),
         "write-pages" => tell(
             rt,
-            pages_written(heap, scheme, second, third, bytes)?.as_str(),
+            written_to(heap, third, |out| scheme.write(second, bytes, out))?,
         ),
         "capture" => streams::print_capture(rt, bytes),
         "stream" => streams::print_reports(rt, bytes),

@@ -1,10 +1,9 @@
 // What the link makes of a stream.
+use crate::case::bytes_of;
 use answers::log;
 use std::io;
-use std::io::ErrorKind;
 use stream_vectors::captures::board_of;
 use stream_vectors::outside_pages::{Expanded, report_parts};
-use vectors::hex_text::bytes_of;
 
 // The answer of every pull, then the rows of the board, which is pulled over the read-ahead.
 pub fn print_capture(rt: &HostRuntime, capture: &[u8]) -> io::Result<()> {
@@ -28,9 +27,7 @@ pub fn print_reports(rt: &HostRuntime, stream: &[u8]) -> io::Result<()> {
 
 // The reading, the receive time, the number of satellites and their PRNs.
 fn print_report(rt: &HostRuntime, reading: &str, body: &str) -> io::Result<()> {
-    let Ok(body) = bytes_of(rt.alloc(), body) else {
-        return Err(ErrorKind::InvalidData.into());
-    };
+    let body = bytes_of(rt.alloc(), body)?;
     match Expanded::of(body.as_slice()) {
         Some(report) => println!(rt; "{reading} {report}"),
         None => rt.println("no head"),

@@ -25,17 +25,17 @@ pub fn run(rt: &HostRuntime) -> anyhow::Result<()> {
 fn answer(heap: Global, case: &str, want: &str) -> anyhow::Result<String> {
     let mut words = Words::of(heap, case);
     match words.word()? {
-        "packet" => packet(words),
-        "pulls" => pulls(words),
-        "key" => key(words),
+        "packet" => packet(&mut words),
+        "pulls" => pulls(&mut words),
+        "key" => key(&mut words),
         _ => record_cases::answer(heap, case, want),
     }
 }
 
 // Words of hex digits, or zeros:N for N bytes 00h.
-fn all_bytes(words: Words<'_>) -> anyhow::Result<Vec<u8>> {
+fn all_bytes(words: &mut Words<'_>) -> anyhow::Result<Vec<u8>> {
     let mut bytes = Vec::new(words.heap);
-    for word in words.words {
+    for word in words {
         match word.strip_prefix("zeros:") {
             Some(count) => bytes.extend(repeat_n(0, count.parse::<u32>()? as usize))?,
             None => add_hex(&mut bytes, word)?,
@@ -45,23 +45,20 @@ fn all_bytes(words: Words<'_>) -> anyhow::Result<Vec<u8>> {
 }
 
 // What stands behind a start byte.
-fn packet(words: Words<'_>) -> anyhow::Result<String> {
-    let heap = words.heap;
+fn packet(words: &mut Words<'_>) -> anyhow::Result<String> {
     let bytes = all_bytes(words)?;
-    Ok(PacketText(read(bytes.as_slice())).to_string(heap)?)
+    words.text(PacketText(read(bytes.as_slice())))
 }
 
 // The answers of a new link up to the first idle, with commas between them.
-fn pulls(words: Words<'_>) -> anyhow::Result<String> {
-    let heap = words.heap;
+fn pulls(words: &mut Words<'_>) -> anyhow::Result<String> {
     let bytes = all_bytes(words)?;
-    let pulls = log(heap, bytes.as_slice())?;
-    let lines: Vec<&str> = pulls.as_str().lines().collect(heap)?;
-    Ok(lines.as_slice().join(heap, ", ")?)
+    let pulls = log(words.heap, bytes.as_slice())?;
+    let lines: Vec<&str> = pulls.as_str().lines().collect(words.heap)?;
+    Ok(lines.as_slice().join(words.heap, ", ")?)
 }
 
-fn key(words: Words<'_>) -> anyhow::Result<String> {
-    let mut words = words;
+fn key(words: &mut Words<'_>) -> anyhow::Result<String> {
     let key = rank_key(words.bits()?);
-    words.text(&key)
+    words.text(key)
 }

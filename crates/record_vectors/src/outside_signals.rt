@@ -8,7 +8,6 @@ use records::survey::head;
 use signals::{Signal, rank_signals};
 use std::alloc::Global;
 use std::fs;
-use std::str::SplitWhitespace;
 use vectors::hex_text::part;
 use vectors::tally::{Tally, each_case};
 use vectors::words::Words;
@@ -32,41 +31,47 @@ struct Found<'a> {
     pairs: Vec<Signal>,
 }
 
-fn read_found(heap: Global, line: &str) -> anyhow::Result<Found<'_>> {
-    let mut words = Words::of(heap, line);
-    let _record = words.word()?;
-    let number = words.word()?;
-    let _time = words.word()?;
-    Ok(Found {
-        number,
-        bits: words.bits()?,
-        count: words.number::<usize>()?,
-        pairs: read_pairs(heap, words.words)?,
-    })
+impl Found<'_> {
+    fn read(heap: Global, line: &str) -> anyhow::Result<Found<'_>> {
+        let mut words = Words::of(heap, line);
+        let _record = words.word()?;
+        let number = words.word()?;
+        let _time = words.word()?;
+        Ok(Found {
+            number,
+            bits: words.bits()?,
+            count: words.number::<usize>()?,
+            pairs: words.map(read_pair).try_collect(heap)?,
+        })
+    }
+
+    // Whether the code finds the same in the survey.
+    fn is_in(&self, body: &[u8], count: usize, list: &[Signal]) -> bool {
+        self.count == count
+            && head(body).is_ok_and(|head| head.receive_time == self.bits)
+            && is_ranking(list, count, self.pairs.as_slice())
+    }
 }
 
-fn read_pairs(heap: Global, words: SplitWhitespace<'_>) -> anyhow::Result<Vec<Signal>> {
-    words
-        .map(|word| -> anyhow::Result<Signal> {
-            let (prn, snr) = word.split_once(':').context("a pair has no SNR")?;
-            Ok(Signal {
-                prn: prn.parse::<u8>()?,
-                snr: snr.parse::<u8>()?,
-            })
-        })
-        .try_collect(heap)
+// PRN:SNR
+fn read_pair(word: &str) -> anyhow::Result<Signal> {
+    let (prn, snr) = word.split_once(':').context("a pair has no SNR")?;
+    Ok(Signal {
+        prn: prn.parse::<u8>()?,
+        snr: snr.parse::<u8>()?,
+    })
 }
 
 // The line itself, where the code finds the same; else what it finds.
 fn ranked(heap: Global, bodies: &str, line: &str) -> anyhow::Result<String> {
-    let found = read_found(heap, line)?;
+    let found = Found::read(heap, line)?;
     let body = part(heap, bodies, "record", found.number)?;
     let flags = flags_of(heap, bodies, found.number)?;
     let mut list = blank_list(heap, PLACES)?;
     let Ok(count) = rank_signals(body.as_slice(), flags, list.as_mut_slice()) else {
         return Ok(String::from_str(heap, "a refusal")?);
     };
-    if found.is(body.as_slice(), count, list.as_slice()) {
+    if found.is_in(body.as_slice(), count, list.as_slice()) {
         return Ok(String::from_str(heap, line)?);
     }
     list_text(heap, count, list.as_slice())
@@ -76,19 +81,11 @@ fn ranked(heap: Global, bodies: &str, line: &str) -> anyhow::Result<String> {
 fn flags_of(heap: Global, bodies: &str, number: &str) -> anyhow::Result<u8> {
     for line in bodies.lines() {
         let mut words = Words::of(heap, line);
-        if words.words.next() == Some("record") && words.words.next() == Some(number) {
+        if words.next() == Some("record") && words.next() == Some(number) {
             return words.number::<u8>();
         }
     }
     bail!("no record of this number")
-}
-
-impl Found<'_> {
-    fn is(&self, body: &[u8], count: usize, list: &[Signal]) -> bool {
-        self.count == count
-            && head(body).is_ok_and(|head| head.receive_time == self.bits)
-            && is_ranking(list, count, self.pairs.as_slice())
-    }
 }
 
 // Whether the used places have just these pairs, higher SNR first, and the others are as before.

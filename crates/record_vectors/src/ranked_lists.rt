@@ -4,7 +4,6 @@ use records::fault::RecordFault;
 use signals::{Signal, rank_signals};
 use std::alloc::{AllocError, Global};
 use std::fmt;
-use std::str::SplitWhitespace;
 use vectors::refusals::Refused;
 use vectors::words::Words;
 
@@ -42,17 +41,17 @@ pub fn blank_list(heap: Global, places: u32) -> Result<Vec<Signal>, AllocError> 
 }
 
 // Whether all places are as they were before the call.
-pub fn is_blank(places: &[Signal]) -> bool {
+pub(crate) fn is_blank(places: &[Signal]) -> bool {
     places.iter().all(|signal| *signal == BLANK)
 }
 
 // How often an entry stands in a list.
-pub fn times<T: PartialEq>(list: &[T], entry: &T) -> usize {
+pub(crate) fn times<T: PartialEq>(list: &[T], entry: &T) -> usize {
     list.iter().filter(|other| *other == entry).count()
 }
 
 // COUNT, then PRN:SNR for each place used.
-pub fn list_text(heap: Global, count: usize, list: &[Signal]) -> anyhow::Result<String> {
+pub(crate) fn list_text(heap: Global, count: usize, list: &[Signal]) -> anyhow::Result<String> {
     let mut text = format!(in heap; "{count}")?;
     for signal in list.iter().take(count) {
         let signal = SignalText(*signal);
@@ -85,12 +84,8 @@ fn is_filled_by(places: &[Signal], group: &Group) -> bool {
 }
 
 // Whether the groups, one behind the other, fill the places that are used, and the others are as before.
-fn is_allowed(
-    heap: Global,
-    groups: SplitWhitespace<'_>,
-    count: usize,
-    list: &[Signal],
-) -> anyhow::Result<bool> {
+fn is_allowed(groups: Words<'_>, count: usize, list: &[Signal]) -> anyhow::Result<bool> {
+    let heap = groups.heap;
     let mut rest = list;
     let mut filled: usize = 0;
     for word in groups.filter(|word| *word != "free") {
@@ -109,16 +104,16 @@ fn is_allowed(
 
 // What is to come, where the call answers that count and one of the lists allowed.
 fn listed(heap: Global, want: &str, count: usize, list: &[Signal]) -> anyhow::Result<String> {
-    let mut words = want.split_whitespace();
+    let mut words = Words::of(heap, want);
     let wanted = words.next().context("nothing is to come")?;
-    if wanted.parse::<usize>() == Ok(count) && is_allowed(heap, words, count, list)? {
+    if wanted.parse::<usize>() == Ok(count) && is_allowed(words, count, list)? {
         return Ok(String::from_str(heap, want)?);
     }
     list_text(heap, count, list)
 }
 
 // The survey call of a case, with a list of the case's places.
-pub fn ranked_list(words: &mut Words<'_>, want: &str) -> anyhow::Result<String> {
+pub(crate) fn ranked_list(words: &mut Words<'_>, want: &str) -> anyhow::Result<String> {
     let places = words.number::<u32>()?;
     let flags = words.number::<u8>()?;
     let body = words.bytes()?;
@@ -132,7 +127,7 @@ pub fn ranked_list(words: &mut Words<'_>, want: &str) -> anyhow::Result<String> 
 // The refusal, which leaves the list as it was.
 fn refused(words: &Words<'_>, fault: RecordFault, list: &[Signal]) -> anyhow::Result<String> {
     if !is_blank(list) {
-        return words.text(&"a refusal with the list changed");
+        return words.text("a refusal with the list changed");
     }
-    words.text(&Refused(fault.refusal()))
+    words.text(Refused(fault.refusal()))
 }

@@ -1,6 +1,6 @@
 // The cases of records.txt: readings, kinds, headers, and the parts and lists that the readers hand out.
 use crate::ranked_lists::ranked_list;
-use crate::record_parts::{parts_or_refusal, records_text, satellites_text};
+use crate::record_parts::{records_text, satellites_text};
 use crate::report_texts::{HeaderText, kind_name, report_reading};
 use anyhow::bail;
 use records::fault::RecordFault;
@@ -31,7 +31,7 @@ pub fn answer(heap: Global, case: &str, want: &str) -> anyhow::Result<String> {
         "report" => reading_of_report(&mut words),
         "header" => header(&mut words),
         "satellites" => satellites(&mut words),
-        "records" => parts_or_refusal(heap, records_text(heap, words.bytes()?.as_slice())?),
+        "records" => records(&mut words),
         "rank" => ranked_list(&mut words, want),
         _ => bail!("a case of no known sort"),
     }
@@ -45,7 +45,7 @@ fn reading_by<F: FnOnce(&[u8]) -> Result<(), RecordFault>>(
     requires { F.IsAlwaysCallable check }
 {
     let body = words.bytes()?;
-    words.text(&Reading(check(body.as_slice())))
+    words.text(Reading(check(body.as_slice())))
 }
 
 fn survey_reading(words: &mut Words<'_>) -> anyhow::Result<String> {
@@ -56,7 +56,7 @@ fn survey_reading(words: &mut Words<'_>) -> anyhow::Result<String> {
 fn kind(words: &mut Words<'_>) -> anyhow::Result<String> {
     let scheme = words.scheme()?;
     let key = words.number::<u32>()?;
-    words.text(&kind_name(scheme, key))
+    words.text(kind_name(scheme, key))
 }
 
 fn reading_of_report(words: &mut Words<'_>) -> anyhow::Result<String> {
@@ -68,12 +68,18 @@ fn reading_of_report(words: &mut Words<'_>) -> anyhow::Result<String> {
 fn header(words: &mut Words<'_>) -> anyhow::Result<String> {
     let scheme = words.scheme()?;
     let data = words.bytes()?;
-    words.text(&HeaderText(scheme.read(data.as_slice())))
+    words.text(HeaderText(scheme.read(data.as_slice())))
 }
 
 fn satellites(words: &mut Words<'_>) -> anyhow::Result<String> {
     let flags = words.number::<u8>()?;
     let body = words.bytes()?;
     let parts = satellites_text(words.heap, body.as_slice(), flags)?;
-    parts_or_refusal(words.heap, parts)
+    Ok(parts.or_refusal(words.heap)?)
+}
+
+fn records(words: &mut Words<'_>) -> anyhow::Result<String> {
+    let body = words.bytes()?;
+    let parts = records_text(words.heap, body.as_slice())?;
+    Ok(parts.or_refusal(words.heap)?)
 }

@@ -63,25 +63,40 @@ pub struct Parts {
     pub refused: Option<Refused>,
 }
 
+impl Parts {
+    fn refused(text: String, fault: RecordFault) -> Parts {
+        Parts {
+            text,
+            refused: Some(Refused(fault.refusal())),
+        }
+    }
+
+    // The parts with a space between two, `-` for none; where one is refused, the refusal alone.
+    pub(crate) fn or_refusal(self, heap: Global) -> Result<String, AllocError> {
+        match self.refused {
+            Some(refused) => refused.to_string(heap),
+            None => self
+                .text
+                .as_str()
+                .strip_prefix(' ')
+                .unwrap_or("-")
+                .to_string(heap),
+        }
+    }
+}
+
 pub fn satellites_text(heap: Global, body: &[u8], flags: u8) -> Result<Parts, AllocError> {
     match Satellites::new(body, flags) {
         Ok(satellites) => each_part(heap, satellites.map(|found| found.map(SatelliteText))),
-        Err(fault) => no_parts(heap, fault),
+        Err(fault) => Ok(Parts::refused(String::new(heap), fault)),
     }
 }
 
 pub fn records_text(heap: Global, body: &[u8]) -> Result<Parts, AllocError> {
     match Records::new(body) {
         Ok(records) => each_part(heap, records.map(|found| found.map(RecordText))),
-        Err(fault) => no_parts(heap, fault),
+        Err(fault) => Ok(Parts::refused(String::new(heap), fault)),
     }
-}
-
-fn no_parts(heap: Global, fault: RecordFault) -> Result<Parts, AllocError> {
-    Ok(Parts {
-        text: String::new(heap),
-        refused: Some(Refused(fault.refusal())),
-    })
 }
 
 fn each_part<T: fmt::Display + Drop, I: Iterator<Item = Result<T, RecordFault>> + Drop>(
@@ -95,23 +110,11 @@ fn each_part<T: fmt::Display + Drop, I: Iterator<Item = Result<T, RecordFault>> 
     for found in cursor {
         match found {
             Ok(part) => write!(text, " {part}")?,
-            Err(fault) => {
-                let refused = Some(Refused(fault.refusal()));
-                return Ok(Parts { text, refused });
-            }
+            Err(fault) => return Ok(Parts::refused(text, fault)),
         }
     }
     Ok(Parts {
         text,
         refused: None,
     })
-}
-
-// The parts with a space between two, `-` for none; where one is refused, the refusal alone.
-pub fn parts_or_refusal(heap: Global, parts: Parts) -> anyhow::Result<String> {
-    if let Some(refused) = parts.refused {
-        return Ok(refused.to_string(heap)?);
-    }
-    let text = parts.text.as_str();
-    Ok(String::from_str(heap, text.strip_prefix(' ').unwrap_or("-"))?)
 }

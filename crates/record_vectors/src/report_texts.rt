@@ -1,4 +1,9 @@
 // What a page scheme makes of keys, headers and reports, as text.
+ghost use Rattle.std.specs.Prelude.{◌≡◌};
+ghost use Rattle.records.specs.Faults.{reading_of};
+ghost use Rattle.reading.specs.Readings.{reading};
+ghost use Rattle.vectors.specs.Named.{model_of};
+
 use paging::fault::PageFault;
 use reading::read_report;
 use records::fault::RecordFault;
@@ -18,7 +23,9 @@ pub fn kind_name(scheme: PageScheme, key: u32) -> &'static str {
 }
 
 // The reading that a pull gives with a report.
-pub fn report_reading(scheme: PageScheme, key: u32, body: &[u8]) -> Result<(), RecordFault> {
+pub fn report_reading(scheme: PageScheme, key: u32, body: &[u8]) -> Result<(), RecordFault>
+    ensures { reading_of result ≡ reading ((model_of scheme).means key) key body.now }
+{
     read_report(scheme.means(key), key, body)
 }
 
@@ -30,10 +37,7 @@ impl fmt::Display for HeaderText {
     fn fmt<W: fmt::Write>(&self, f: &mut fmt::Formatter<W>) -> fmt::Result {
         match self.0 {
             Ok((key, page, total)) => write!(f, "{key} {page} {total}"),
-            Err(fault) => {
-                let refused = Refused(fault.refusal());
-                write!(f, "{refused}")
-            }
+            Err(fault) => write!(f, "{}", Refused(fault.refusal())),
         }
     }
 }

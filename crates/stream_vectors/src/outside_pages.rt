@@ -97,7 +97,7 @@ impl Expanded<'_> {
     }
 
     // The place behind the last satellite, where the report has them all.
-    pub fn end(&self) -> Option<usize> {
+    fn end(&self) -> Option<usize> {
         (0..self.head.count).try_fold(HEAD_SIZE, |at, _| self.behind(at))
     }
 }

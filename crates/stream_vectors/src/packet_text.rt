@@ -12,10 +12,7 @@ impl fmt::Display for PacketText<'_> {
     fn fmt<W: fmt::Write>(&self, f: &mut fmt::Formatter<W>) -> fmt::Result {
         match self.0 {
             Start::Short => write!(f, "too few bytes"),
-            Start::Broken(fault) => {
-                let refused = Refused(fault.refusal());
-                write!(f, "{refused}")
-            }
+            Start::Broken(fault) => write!(f, "{}", Refused(fault.refusal())),
             Start::Lawful(Packet { status, kind, data }) => {
                 let count = data.len();
                 let data = Hex(data);

@@ -25,7 +25,7 @@ pub fn run(rt: &HostRuntime) -> anyhow::Result<()> {
         let key = words.word()?;
         let thousandths = words.word()?;
         let want = format!(in rt.alloc(); "{key} {thousandths}")?;
-        tally.compare(line, want.as_str(), words.text(&got)?.as_str())
+        tally.compare(line, want.as_str(), words.text(got)?.as_str())
     })?;
     tally.print()
 }

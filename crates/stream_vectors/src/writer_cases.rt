@@ -5,7 +5,6 @@ use packet::write::{WriteFault, write};
 use std::alloc::{AllocError, Global};
 use std::fmt;
 use vectors::refusals::Refused;
-use vectors::schemes::PageScheme;
 use vectors::tally::{Tally, each_case};
 use vectors::words::{Words, halves};
 
@@ -49,7 +48,12 @@ fn packet_case(words: &mut Words<'_>) -> anyhow::Result<String> {
     let kind = words.byte()?;
     let room = words.number::<u32>()?;
     let data = words.source()?;
-    Ok(packet_written(words.heap, status, kind, room, data.as_slice())?)
+    let text = written_to(
+        words.heap,
+        room,
+        |out| write(status, kind, data.as_slice(), out),
+    )?;
+    Ok(text)
 }
 
 fn pages_case(words: &mut Words<'_>) -> anyhow::Result<String> {
@@ -57,33 +61,24 @@ fn pages_case(words: &mut Words<'_>) -> anyhow::Result<String> {
     let key = words.number::<u32>()?;
     let room = words.number::<u32>()?;
     let report = words.source()?;
-    Ok(pages_written(words.heap, scheme, key, room, report.as_slice())?)
+    let text = written_to(
+        words.heap,
+        room,
+        |out| scheme.write(key, report.as_slice(), out),
+    )?;
+    Ok(text)
 }
 
-// What the packet writer makes of a destination of so many bytes.
-pub fn packet_written(
+// What a writer makes of a destination of so many bytes.
+pub fn written_to<F: FnOnce(&mut [u8]) -> Result<usize, WriteFault>>(
     heap: Global,
-    status: u8,
-    kind: u8,
     room: u32,
-    data: &[u8],
-) -> Result<String, AllocError> {
+    write: F,
+) -> Result<String, AllocError>
+    requires { F.IsAlwaysCallable write }
+{
     let mut out = vec![in heap; FILL; room as usize]?;
-    let answer = write(status, kind, data, out.as_mut_slice());
-    let out = out.as_slice();
-    WriterAnswer { answer, out }.to_string(heap)
-}
-
-// What the page writer makes of a destination of so many bytes.
-pub fn pages_written(
-    heap: Global,
-    scheme: PageScheme,
-    key: u32,
-    room: u32,
-    report: &[u8],
-) -> Result<String, AllocError> {
-    let mut out = vec![in heap; FILL; room as usize]?;
-    let answer = scheme.write(key, report, out.as_mut_slice());
+    let answer = write(out.as_mut_slice());
     let out = out.as_slice();
     WriterAnswer { answer, out }.to_string(heap)
 }
@@ -117,8 +112,7 @@ impl fmt::Display for WriterAnswer<'_> {
             return write!(f, "bytes changed behind those written");
         }
         if let Err(fault) = self.answer {
-            let refused = Refused(fault.refusal());
-            return write!(f, "{refused}");
+            return write!(f, "{}", Refused(fault.refusal()));
         }
         if count > SHOWN {
             let fold = fold(bytes);

@@ -23,10 +23,7 @@ impl fmt::Display for Reading {
     fn fmt<W: fmt::Write>(&self, f: &mut fmt::Formatter<W>) -> fmt::Result {
         match self.0 {
             Ok(()) => write!(f, "0"),
-            Err(fault) => {
-                let refused = Refused(fault.refusal());
-                write!(f, "{refused}")
-            }
+            Err(fault) => write!(f, "{}", Refused(fault.refusal())),
         }
     }
 }

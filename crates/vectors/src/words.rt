@@ -1,4 +1,8 @@
 // The words of a line.
+ghost use Rattle.std.specs.Prelude.{length};
+ghost use Rattle.std.specs.Iterator.{at_most};
+ghost use Rattle.std.specs.Str.Iter.{split_whitespace_steps, split_whitespace_rest};
+
 use crate::hex_text::{bytes_of, source};
 use crate::schemes::PageScheme;
 use anyhow::Context;
@@ -11,7 +15,7 @@ use std::str::{FromStr, SplitWhitespace};
 #[derive(Drop)]
 pub struct Words<'a> {
     pub heap: Global,
-    pub words: SplitWhitespace<'a>,
+    words: SplitWhitespace<'a>,
 }
 
 impl<'a> Words<'a> {
@@ -21,7 +25,7 @@ impl<'a> Words<'a> {
     }
 
     pub fn word(&mut self) -> anyhow::Result<&'a str> {
-        self.words.next().context("a word is missing")
+        self.next().context("a word is missing")
     }
 
     // Two hex digits.
@@ -58,8 +62,20 @@ impl<'a> Words<'a> {
     }
 
     // What is made of the words, as text.
-    pub fn text<T: Display>(&self, made: &T) -> anyhow::Result<String> {
+    pub fn text<T: Display + Drop>(&self, made: T) -> anyhow::Result<String> {
         Ok(made.to_string(self.heap)?)
+    }
+}
+
+impl<'a> Iterator for Words<'a> {
+    type Item = &'a str;
+
+    ghost next_gives = { λ s r t. split_whitespace_steps s.words r t.words };
+
+    ghost remaining = { λ s. at_most (length (split_whitespace_rest s.words)) };
+
+    fn next(&mut self) -> Option<&'a str> {
+        self.words.next()
     }
 }
 
