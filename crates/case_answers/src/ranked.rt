@@ -17,7 +17,7 @@ pub fn print(rt: &HostRuntime, places: u32, flags: u8, body: &[u8]) -> io::Resul
         }
         Err(fault) => {
             print_places(rt, 0, list.as_slice())?;
-            tell(rt, Refused(fault.refusal()))
+            tell(rt, Refused(fault.into()))
         }
     }
 }

@@ -129,5 +129,5 @@ fn refused(words: &Words<'_>, fault: RecordFault, list: &[Signal]) -> anyhow::Re
     if !is_blank(list) {
         return words.text("a refusal with the list changed");
     }
-    words.text(Refused(fault.refusal()))
+    words.text(Refused(fault.into()))
 }

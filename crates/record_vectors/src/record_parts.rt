@@ -67,7 +67,7 @@ impl Parts {
     fn refused(text: String, fault: RecordFault) -> Parts {
         Parts {
             text,
-            refused: Some(Refused(fault.refusal())),
+            refused: Some(Refused(fault.into())),
         }
     }
 

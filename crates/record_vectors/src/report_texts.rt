@@ -15,10 +15,10 @@ use vectors::schemes::PageScheme;
 // The kind that a scheme gives a key.
 pub fn kind_name(scheme: PageScheme, key: u32) -> &'static str {
     match scheme.means(key) {
-        Kind::Position => "position",
-        Kind::Survey => "survey",
-        Kind::Application => "application",
-        Kind::None => "none",
+        Some(Kind::Position) => "position",
+        Some(Kind::Survey) => "survey",
+        Some(Kind::Application) => "application",
+        None => "none",
     }
 }
 
@@ -37,7 +37,7 @@ impl fmt::Display for HeaderText {
     fn fmt<W: fmt::Write>(&self, f: &mut fmt::Formatter<W>) -> fmt::Result {
         match self.0 {
             Ok((key, page, total)) => write!(f, "{key} {page} {total}"),
-            Err(fault) => write!(f, "{}", Refused(fault.refusal())),
+            Err(fault) => write!(f, "{}", Refused(fault.into())),
         }
     }
 }

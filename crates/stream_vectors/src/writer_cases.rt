@@ -112,7 +112,7 @@ impl fmt::Display for WriterAnswer<'_> {
             return write!(f, "bytes changed behind those written");
         }
         if let Err(fault) = self.answer {
-            return write!(f, "{}", Refused(fault.refusal()));
+            return write!(f, "{}", Refused(fault.into()));
         }
         if count > SHOWN {
             let fold = fold(bytes);

@@ -14,7 +14,7 @@ use paging::scheme::Scheme;
 use records::kind::Kind;
 use writing::write_report;
 
-#[derive(Clone, Copy)]
+#[derive(Clone, Copy, Debug, PartialEq, Eq)]
 pub enum PageScheme {
     RawData,
     AppFile,
@@ -26,10 +26,10 @@ impl TryFrom<u32> for PageScheme {
     ghost try_from_gives = { λ packet_type r. IfOk r (λ scheme. (model_of scheme).type ≡ packet_type) };
 
     fn try_from(packet_type: u32) -> anyhow::Result<PageScheme> {
-        if packet_type == u32::from(RawData::packet_type()) {
+        if packet_type == u32::from(RawData::TYPE) {
             return Ok(PageScheme::RawData);
         }
-        if packet_type == u32::from(AppFile::packet_type()) {
+        if packet_type == u32::from(AppFile::TYPE) {
             return Ok(PageScheme::AppFile);
         }
         Err(anyhow!("no scheme has this type"))
@@ -37,8 +37,8 @@ impl TryFrom<u32> for PageScheme {
 }
 
 impl PageScheme {
-    // The kind of report that a key means.
-    pub fn means(self, key: u32) -> Kind
+    // The kind of report that a key means, if it means one.
+    pub fn means(self, key: u32) -> Option<Kind>
         ensures { result ≡ (model_of self).means key }
     {
         match self {
