@@ -55,7 +55,8 @@ pub enum Record<'a> {
     },
 }
 
-// Whether the bytes are an application file.
+// Whether the bytes are an application file. (`records::survey::check` loops alike: one public function for
+// both would have to require of its caller that the iterator ends.)
 pub fn check(body: &[u8]) -> Result<(), RecordFault>
     ensures { reading_of result ≡ application_reading body.now }
 {

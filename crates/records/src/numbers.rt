@@ -1,4 +1,4 @@
-// Numbers of several bytes, high byte first.
+// Numbers of several bytes, high byte first. One function for each type: no trait has `from_be_bytes`.
 ghost use Rattle.std.specs.Prelude.{◌≡◌, ℕ, ◌+◌, ◌≤◌, length};
 ghost use Rattle.records.specs.Numbers.{be32, be64, signed16};
 
