@@ -23,7 +23,7 @@ pub extern "C" fn station_board(capture: &[u8], rows: &mut [StationFix]) -> usiz
     station::station_board(&mut Capture::new(capture), rows)
 }
 
-// The same through the read-ahead.
+// The same through the read-ahead. C cannot call a generic function, so each line has a function here.
 #[unsafe(no_mangle)]
 pub extern "C" fn station_board_ahead(capture: &[u8], rows: &mut [StationFix]) -> usize
     ensures { (board : List Fixed) × BoardOf capture.now board × (result ≡ min (length board) (length rows.old)) × (rows.new ≡ rows_of board rows.old) }
