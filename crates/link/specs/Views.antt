@@ -1,6 +1,5 @@
 -- What the structs and the answers of the code stand for.
 use Rattle.fixes.specs.Views.{board_of}
-use Rattle.held.specs.Views.{held_in}
 use Rattle.protocol.specs.Links as model
 use Rattle.link.specs.declared.link.Link.{Link}
 use Rattle.link.specs.declared.answer.Answer.{Answer}
@@ -16,4 +15,4 @@ answer_of (Other s t n) = model.other s t n
 answer_of (Refused f) = model.refused (link_refusal f)
 
 abbrev pub state_of : {X Y : Type 0} → Link X Y → model.Link
-state_of l = record { held = held_in l.held; in_step = l.in_step; first = l.first.held; second = l.second.held; board = board_of l.board }
+state_of l = record { held = l.held; in_step = l.in_step; first = l.first.held; second = l.second.held; board = board_of l.board }

@@ -1,6 +1,6 @@
 use Rattle.std.proofs.Common.{◌≡◌, length, drop}
 use Rattle.held.specs.Streams.{passed}
-use Rattle.held.proofs.bytes.methods.pass_waiting.Given as goal
+use Rattle.held.proofs.bytes.pass_waiting.Given as goal
 
 abbrev pub invariant-loop-b : goal.invariant-loop-b
 invariant-loop-b g l =
