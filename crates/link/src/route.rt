@@ -29,12 +29,7 @@ fn copy(body: &[u8], buffer: &mut [u8; REPORT])
 }
 
 // Reads a report, and puts a position that reads on the board.
-fn deliver(
-    kind: Option<Kind>,
-    key: u32,
-    body: &[u8],
-    board: &mut FixBoard,
-) -> Result<(), LinkFault>
+fn deliver(kind: Option<Kind>, key: u32, body: &[u8], board: &mut FixBoard) -> Result<(), LinkFault>
     ensures answer { reading_in result ≡ reading_by kind key body.now }
     ensures board { board_of board.new ≡ board_with reading_by fix_of enter kind key body.now (board_of board.old) }
 {
