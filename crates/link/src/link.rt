@@ -24,6 +24,8 @@ use paging::scheme::Scheme;
 
 const START: u8 = 2;
 
+// No `impl Model`: seen through one, the board would be a list, and no longer known from its type to be in rank
+// order and of at most 32 fixes. So contracts see a link by `state_of`.
 #[derive(Drop)]
 pub struct Link<A, B> {
     held: HeldBytes,

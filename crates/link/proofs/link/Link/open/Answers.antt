@@ -18,7 +18,7 @@ returns-in_default g c =
     let h2 = c.gather.new.self in
     opened_short g.A.Scheme.model g.B.Scheme.model reading fix_of enter l v c.args.buffer.now h2 (g.L.Line.waiting c.gather.new.line)
     (record { held = c.gather.ensures.held; waiting = c.gather.ensures.waiting }) c.len.result
-    (ap front (sym c.all.ensures) ∙ (rw c.in_default.is at c.read.ensures)) c.len.ensures
+    (ap front (sym c.all.ensures) ∙ (rw c.in_default.is at c.read.ensures)) c.len.ensures.count
 
 pub returns-in-Err : goal.returns-in-Err
 returns-in-Err g c =

@@ -1,4 +1,4 @@
-use Rattle.std.proofs.Common.{◌≡◌, ◌≤◌, ◌++◌, length, drop, Some, sym, ap, ◌∙◌, arith, length-append, length-drop}
+use Rattle.std.proofs.Common.{◌≤◌, ◌++◌, length, drop, Some, sym, ap, ◌∙◌, arith, length-append, length-drop}
 use Rattle.reading.specs.Readings.{reading}
 use Rattle.protocol.specs.Links.{idle, signal}
 use Rattle.protocol.specs.Pulls.{Outcome}
