@@ -18,7 +18,7 @@ use std::fmt::Display;
 use std::io;
 use stream_vectors::packet_text::PacketText;
 use stream_vectors::rank_cases::DoubleText;
-use stream_vectors::writer_cases::written_to;
+use stream_vectors::writer_cases::{WriterAnswer, destination};
 use vectors::refusals::Reading;
 use vectors::words::is_remark;
 use worked::worked_cases_hold;
@@ -67,16 +67,18 @@ fn print_answer(rt: &HostRuntime, case: Case<'_>, bytes: &[u8]) -> io::Result<()
         "records" => print_parts(rt, records_text(heap, bytes)?),
         "rank" => ranked::print(rt, first, low_byte(second), bytes),
         "signals" => ranked::print_with_time(rt, low, bytes),
-        "write-packet" => tell(
-            rt,
-            written_to(heap, third, |out| {
-                write(low, low_byte(second), bytes, out)
-            })?,
-        ),
-        "write-pages" => tell(
-            rt,
-            written_to(heap, third, |out| scheme.write(second, bytes, out))?,
-        ),
+        "write-packet" => {
+            let mut out = destination(heap, third)?;
+            let answer = write(low, low_byte(second), bytes, out.as_mut_slice());
+            let out = out.as_slice();
+            tell(rt, WriterAnswer { answer, out })
+        }
+        "write-pages" => {
+            let mut out = destination(heap, third)?;
+            let answer = scheme.write(second, bytes, out.as_mut_slice());
+            let out = out.as_slice();
+            tell(rt, WriterAnswer { answer, out })
+        }
         "capture" => streams::print_capture(rt, bytes),
         "stream" => streams::print_reports(rt, bytes),
         _ => rt.println(" nothing that is known"),

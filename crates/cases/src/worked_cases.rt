@@ -4,21 +4,23 @@ use fixes::double::rank_key;
 use packet::read::read;
 use record_vectors::record_cases;
 use std::alloc::Global;
+use std::fs;
 use std::iter::repeat_n;
 use stream_vectors::packet_text::PacketText;
 use vectors::hex_text::add_hex;
-use vectors::tally::{Tally, each_case};
-use vectors::words::{Words, halves};
+use vectors::tally::Tally;
+use vectors::words::{Words, halves, is_remark};
 use worked::worked_cases_hold;
 
 pub fn run(rt: &HostRuntime) -> anyhow::Result<()> {
     let _ = worked_cases_hold();
     let mut tally = Tally::new(rt, "worked cases");
-    each_case(rt, "worked.txt", |line| {
+    let text = fs::read_to_string(rt, "worked.txt")?;
+    for line in text.as_str().lines().filter(|line| !is_remark(line)) {
         let (case, want) = halves(line)?;
         let got = answer(rt.alloc(), case, want)?;
-        tally.compare(case, want, got.as_str())
-    })?;
+        tally.compare(case, want, got.as_str())?;
+    }
     tally.print()
 }
 

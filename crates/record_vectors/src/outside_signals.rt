@@ -9,16 +9,17 @@ use signals::{Signal, rank_signals};
 use std::alloc::Global;
 use std::fs;
 use vectors::hex_text::part;
-use vectors::tally::{Tally, each_case};
-use vectors::words::Words;
+use vectors::tally::Tally;
+use vectors::words::{Words, is_remark};
 
 pub fn run(rt: &HostRuntime) -> anyhow::Result<()> {
     let bodies = fs::read_to_string(rt, "outside/rtklib-signals.hex")?;
     let mut tally = Tally::new(rt, "outside, ranked signals");
-    each_case(rt, "outside/rtklib-signals.txt", |line| {
+    let text = fs::read_to_string(rt, "outside/rtklib-signals.txt")?;
+    for line in text.as_str().lines().filter(|line| !is_remark(line)) {
         let got = ranked(rt.alloc(), bodies.as_str(), line)?;
-        tally.compare(line, line, got.as_str())
-    })?;
+        tally.compare(line, line, got.as_str())?;
+    }
     tally.print()
 }
 

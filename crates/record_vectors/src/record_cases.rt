@@ -6,17 +6,19 @@ use anyhow::bail;
 use records::fault::RecordFault;
 use records::{position, survey};
 use std::alloc::Global;
+use std::fs;
 use vectors::refusals::Reading;
-use vectors::tally::{Tally, each_case};
-use vectors::words::{Words, halves};
+use vectors::tally::Tally;
+use vectors::words::{Words, halves, is_remark};
 
 pub fn run(rt: &HostRuntime) -> anyhow::Result<()> {
     let mut tally = Tally::new(rt, "records");
-    each_case(rt, "records.txt", |line| {
+    let text = fs::read_to_string(rt, "records.txt")?;
+    for line in text.as_str().lines().filter(|line| !is_remark(line)) {
         let (case, want) = halves(line)?;
         let got = answer(rt.alloc(), case, want)?;
-        tally.compare(case, want, got.as_str())
-    })?;
+        tally.compare(case, want, got.as_str())?;
+    }
     tally.print()
 }
 

@@ -9,14 +9,15 @@ use rows::board_text;
 use std::alloc::{AllocError, Global};
 use std::fs;
 use vectors::hex_text::from_hex;
-use vectors::tally::{Tally, each_case};
-use vectors::words::Words;
+use vectors::tally::Tally;
+use vectors::words::{Words, is_remark};
 
 pub fn run(rt: &HostRuntime) -> anyhow::Result<()> {
     let heap = rt.alloc();
     let mut answers = Tally::new(rt, "captures, answers");
     let mut boards = Tally::new(rt, "captures, boards");
-    each_case(rt, "captures.txt", |line| {
+    let text = fs::read_to_string(rt, "captures.txt")?;
+    for line in text.as_str().lines().filter(|line| !is_remark(line)) {
         let name = Words::of(heap, line).word()?;
         let capture = from_hex(heap, kept(rt, name, "hex")?.as_str())?;
         let want = kept(rt, name, "answers")?;
@@ -24,8 +25,8 @@ pub fn run(rt: &HostRuntime) -> anyhow::Result<()> {
         answers.compare_lines(name, want.as_str(), got.as_str())?;
         let want = kept(rt, name, "fixlist")?;
         let got = board_of(heap, capture.as_slice())?;
-        boards.compare_lines(name, want.as_str(), got.as_str())
-    })?;
+        boards.compare_lines(name, want.as_str(), got.as_str())?;
+    }
     answers.print()?;
     boards.print()
 }

@@ -3,10 +3,10 @@ use answers::Hex;
 use anyhow::{Context, bail};
 use packet::write::{WriteFault, write};
 use std::alloc::{AllocError, Global};
-use std::fmt;
+use std::{fmt, fs};
 use vectors::refusals::Refused;
-use vectors::tally::{Tally, each_case};
-use vectors::words::{Words, halves};
+use vectors::tally::Tally;
+use vectors::words::{Words, halves, is_remark};
 
 // What stands in a destination before the call.
 const FILL: u8 = 0xEE;
@@ -16,12 +16,13 @@ const SHOWN: usize = 48;
 
 pub fn run(rt: &HostRuntime) -> anyhow::Result<()> {
     let mut tally = Tally::new(rt, "writers");
-    each_case(rt, "writers.txt", |line| {
+    let text = fs::read_to_string(rt, "writers.txt")?;
+    for line in text.as_str().lines().filter(|line| !is_remark(line)) {
         let (case, answer) = halves(line)?;
         let want = without_hash(rt.alloc(), answer)?;
         let got = written(rt.alloc(), case)?;
-        tally.compare(case, want.as_str(), got.as_str())
-    })?;
+        tally.compare(case, want.as_str(), got.as_str())?;
+    }
     tally.print()
 }
 
@@ -48,12 +49,10 @@ fn packet_case(words: &mut Words<'_>) -> anyhow::Result<String> {
     let kind = words.byte()?;
     let room = words.number::<u32>()?;
     let data = words.source()?;
-    let text = written_to(
-        words.heap,
-        room,
-        |out| write(status, kind, data.as_slice(), out),
-    )?;
-    Ok(text)
+    let mut out = destination(words.heap, room)?;
+    let answer = write(status, kind, data.as_slice(), out.as_mut_slice());
+    let out = out.as_slice();
+    words.text(WriterAnswer { answer, out })
 }
 
 fn pages_case(words: &mut Words<'_>) -> anyhow::Result<String> {
@@ -61,26 +60,15 @@ fn pages_case(words: &mut Words<'_>) -> anyhow::Result<String> {
     let key = words.number::<u32>()?;
     let room = words.number::<u32>()?;
     let report = words.source()?;
-    let text = written_to(
-        words.heap,
-        room,
-        |out| scheme.write(key, report.as_slice(), out),
-    )?;
-    Ok(text)
+    let mut out = destination(words.heap, room)?;
+    let answer = scheme.write(key, report.as_slice(), out.as_mut_slice());
+    let out = out.as_slice();
+    words.text(WriterAnswer { answer, out })
 }
 
-// What a writer makes of a destination of so many bytes.
-pub fn written_to<F: FnOnce(&mut [u8]) -> Result<usize, WriteFault>>(
-    heap: Global,
-    room: u32,
-    write: F,
-) -> Result<String, AllocError>
-    requires { F.IsAlwaysCallable write }
-{
-    let mut out = vec![in heap; FILL; room as usize]?;
-    let answer = write(out.as_mut_slice());
-    let out = out.as_slice();
-    WriterAnswer { answer, out }.to_string(heap)
+// A destination of so many bytes.
+pub fn destination(heap: Global, room: u32) -> Result<Vec<u8>, AllocError> {
+    Ok(vec![in heap; FILL; room as usize]?)
 }
 
 // Begins with 0; each byte makes h to 31 h + byte, modulo 2^32.
@@ -97,9 +85,9 @@ fn is_untouched(bytes: &[u8]) -> bool {
 // A writer's answer and its destination: the number of bytes written, and the bytes or their fold, if all behind them
 // is untouched.
 #[derive(Clone, Copy)]
-struct WriterAnswer<'a> {
-    answer: Result<usize, WriteFault>,
-    out: &'a [u8],
+pub struct WriterAnswer<'a> {
+    pub answer: Result<usize, WriteFault>,
+    pub out: &'a [u8],
 }
 
 impl fmt::Display for WriterAnswer<'_> {

@@ -1,7 +1,4 @@
 // What the cases of a group came to.
-use crate::words::is_remark;
-use std::fs;
-
 #[derive(Drop)]
 pub struct Tally<'a> {
     rt: &'a HostRuntime,
@@ -62,21 +59,4 @@ fn lines_alike(a: &str, b: &str) -> usize {
 
 fn line_at(text: &str, at: usize) -> &str {
     text.lines().nth(at).unwrap_or("no more lines")
-}
-
-// Goes over the cases of a file, a line each.
-pub fn each_case<F: FnMut(&str) -> anyhow::Result<()>>(
-    rt: &HostRuntime,
-    file: &str,
-    mut visit: F,
-) -> anyhow::Result<()>
-    requires { F.IsAlwaysCallable visit }
-{
-    let text = fs::read_to_string(rt, file)?;
-    for line in text.as_str().lines() {
-        if !is_remark(line) {
-            visit(line)?;
-        }
-    }
-    Ok(())
 }
