@@ -7,6 +7,7 @@ use crate::{FRONT_SIZE, Record, VERSION, read_record};
 use records::fault::RecordFault;
 
 // The next record begins at `at`; behind the last, and behind a fault, that is the end of the body.
+// (A place in the body, and not the rest alone, since a record and a fault have theirs.)
 #[derive(Drop)]
 pub struct Records<'a> {
     body: &'a [u8],

@@ -50,6 +50,7 @@ fn tell<T: Display + Drop>(rt: &HostRuntime, answer: T) -> io::Result<()> {
     println!(rt; " {answer}")
 }
 
+// What is asked is a word of the case: a match, since each word takes other numbers.
 fn print_answer(rt: &HostRuntime, case: Case<'_>, bytes: &[u8]) -> io::Result<()> {
     let heap = rt.alloc();
     let [first, second, third] = case.numbers;

@@ -24,6 +24,7 @@ pub fn run(rt: &HostRuntime) -> anyhow::Result<()> {
     tally.print()
 }
 
+// A match on the case's word, since each takes other words behind it.
 fn answer(heap: Global, case: &str, want: &str) -> anyhow::Result<String> {
     let mut words = Words::of(heap, case);
     match words.word()? {

@@ -7,7 +7,7 @@ use crate::fix::Fix;
 
 mod methods;
 
-// These are ghost fields and no `impl Model`: a board is copied, and its fixes alone do not give back what
+// An array and a count, since nothing that a link holds is allocated. These are ghost fields and no `impl Model`: a board is copied, and its fixes alone do not give back what
 // the places past the count hold.
 #[derive(Clone, Copy)]
 pub struct FixBoard {

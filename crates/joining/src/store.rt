@@ -3,6 +3,7 @@ ghost use Rattle.std.specs.Prelude.{◌≡◌, ℕ, ◌≤◌, List, [], ◌++�
 
 use std::marker::Model;
 
+// An array and a length, since nothing that a link holds is allocated.
 #[derive(Drop)]
 pub struct Store {
     bytes: [u8; 8064],

@@ -34,7 +34,8 @@ pub fn take_into<L: Line>(line: &mut L, places: &mut [u8]) -> usize
     places.len()
 }
 
-// Raw bytes in the caller's memory; those before `at` are taken.
+// Raw bytes in the caller's memory; those before `at` are taken. (A place in all of them, and not the rest alone,
+// since `taken` answers how many are.)
 #[derive(Debug, Drop)]
 pub struct Capture<'a> {
     bytes: &'a [u8],

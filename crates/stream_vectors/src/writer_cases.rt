@@ -35,6 +35,7 @@ fn without_hash(heap: Global, answer: &str) -> anyhow::Result<String> {
     Ok(format!(in heap; "{count} fold {fold}")?)
 }
 
+// A match on the case's word, since each takes other words behind it.
 fn written(heap: Global, case: &str) -> anyhow::Result<String> {
     let mut words = Words::of(heap, case);
     match words.word()? {

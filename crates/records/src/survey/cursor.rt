@@ -7,6 +7,7 @@ use crate::fault::RecordFault;
 use crate::survey::{COUNT_PLACE, HEAD_SIZE, Satellite, read_satellite};
 
 // `left` satellites are to come, the next one from `at` on; behind a fault none is, and `at` is the end.
+// (A place in the body, and not the rest alone, since a satellite and a fault have theirs.)
 #[derive(Drop)]
 pub struct Satellites<'a> {
     body: &'a [u8],
