@@ -16,7 +16,7 @@ pub struct AnswerLine<'a> {
 }
 
 // A reading as it is printed: 0, or the refusal.
-#[derive(Clone, Copy)]
+#[derive(Clone, Copy, Debug, PartialEq, Eq)]
 struct Reading(Result<(), LinkFault>);
 
 impl fmt::Display for Reading {

@@ -2,7 +2,7 @@
 use std::fmt;
 
 // Two digits for each byte; `-` where there is none.
-#[derive(Clone, Copy)]
+#[derive(Clone, Copy, Debug, PartialEq, Eq)]
 pub struct Hex<'a>(pub &'a [u8]);
 
 impl fmt::Display for Hex<'_> {

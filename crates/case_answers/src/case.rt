@@ -8,7 +8,7 @@ use vectors::schemes::PageScheme;
 // A longer line is printed without its bytes.
 const LONG: usize = 800;
 
-#[derive(Clone, Copy)]
+#[derive(Clone, Copy, Debug, PartialEq, Eq)]
 pub struct Case<'a> {
     pub shown: &'a str,
     pub asked: &'a str,
@@ -48,11 +48,11 @@ pub fn low_byte(number: u32) -> u8 {
 }
 
 // Hex digits, `-` for no bytes, or rule:N for N bytes by a rule.
-pub fn bytes_of(heap: Global, word: &str) -> io::Result<Vec<u8>> {
+pub fn source_of(heap: Global, word: &str) -> io::Result<Vec<u8>> {
     source(heap, word).map_err(|_| ErrorKind::InvalidData.into())
 }
 
-// The scheme of a packet type; application files have every type that no scheme has.
+// The scheme of a packet type; any other type is taken as that of application files.
 pub fn scheme_of(packet_type: u32) -> PageScheme {
     PageScheme::try_from(packet_type).unwrap_or(PageScheme::AppFile)
 }

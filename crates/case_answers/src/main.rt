@@ -8,9 +8,8 @@ mod case;
 mod ranked;
 mod streams;
 
-use case::{Case, bytes_of, low_byte, read_case, scheme_of};
+use case::{Case, low_byte, read_case, scheme_of, source_of};
 use packet::read::read;
-use packet::write::write;
 use record_vectors::record_parts::{Parts, records_text, satellites_text};
 use record_vectors::report_texts::{HeaderText, kind_name, report_reading};
 use records::{position, survey};
@@ -18,7 +17,7 @@ use std::fmt::Display;
 use std::io;
 use stream_vectors::packet_text::PacketText;
 use stream_vectors::rank_cases::DoubleText;
-use stream_vectors::writer_cases::{WriterAnswer, destination};
+use stream_vectors::writer_cases::{packet_written, pages_written};
 use vectors::refusals::Reading;
 use vectors::words::is_remark;
 use worked::worked_cases_hold;
@@ -39,7 +38,7 @@ fn print_line(rt: &HostRuntime, line: &str) -> io::Result<()> {
     let Some(case) = read_case(line) else {
         return rt.println("no case");
     };
-    let bytes = bytes_of(rt.alloc(), case.bytes)?;
+    let bytes = source_of(rt.alloc(), case.bytes)?;
     let shown = case.shown;
     print!(rt; "{shown} =>")?;
     print_answer(rt, case, bytes.as_slice())
@@ -68,18 +67,11 @@ fn print_answer(rt: &HostRuntime, case: Case<'_>, bytes: &[u8]) -> io::Result<()
         "records" => print_parts(rt, records_text(heap, bytes)?),
         "rank" => ranked::print(rt, first, low_byte(second), bytes),
         "signals" => ranked::print_with_time(rt, low, bytes),
-        "write-packet" => {
-            let mut out = destination(heap, third)?;
-            let answer = write(low, low_byte(second), bytes, out.as_mut_slice());
-            let out = out.as_slice();
-            tell(rt, WriterAnswer { answer, out })
-        }
-        "write-pages" => {
-            let mut out = destination(heap, third)?;
-            let answer = scheme.write(second, bytes, out.as_mut_slice());
-            let out = out.as_slice();
-            tell(rt, WriterAnswer { answer, out })
-        }
+        "write-packet" => tell(
+            rt,
+            packet_written(heap, third, low, low_byte(second), bytes)?,
+        ),
+        "write-pages" => tell(rt, pages_written(heap, third, scheme, second, bytes)?),
         "capture" => streams::print_capture(rt, bytes),
         "stream" => streams::print_reports(rt, bytes),
         _ => rt.println(" nothing that is known"),

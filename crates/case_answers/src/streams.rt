@@ -1,5 +1,5 @@
 // What the link makes of a stream.
-use crate::case::bytes_of;
+use crate::case::source_of;
 use answers::log;
 use std::io;
 use stream_vectors::captures::board_of;
@@ -27,7 +27,7 @@ pub fn print_reports(rt: &HostRuntime, stream: &[u8]) -> io::Result<()> {
 
 // The reading, the receive time, the number of satellites and their PRNs.
 fn print_report(rt: &HostRuntime, reading: &str, body: &str) -> io::Result<()> {
-    let body = bytes_of(rt.alloc(), body)?;
+    let body = source_of(rt.alloc(), body)?;
     match Expanded::of(body.as_slice()) {
         Some(report) => println!(rt; "{reading} {report}"),
         None => rt.println("no head"),

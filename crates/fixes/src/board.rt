@@ -7,8 +7,9 @@ use crate::fix::Fix;
 
 mod methods;
 
-// An array and a count, since nothing that a link holds is allocated. These are ghost fields and no `impl Model`: a board is copied, and its fixes alone do not give back what
-// the places past the count hold.
+// An array and a count, since nothing that a link holds is allocated. No `impl Model`: seen as a list, a board would
+// no longer be known from its type to be in rank order and of at most 32 fixes. No derived `==`: boards are alike by
+// their fixes, whatever the places past the count hold.
 #[derive(Clone, Copy)]
 pub struct FixBoard {
     places: [Fix; 32],

@@ -11,7 +11,9 @@ use std::marker::{Model, PhantomData};
 
 #[derive(Clone, Copy, Debug, PartialEq, Eq)]
 pub enum Step {
+    // More pages follow this one: its number, and its report's total.
     More(u16, u16),
+    // The report is whole: its key.
     Whole(u32),
 }
 

@@ -25,7 +25,8 @@ use paging::scheme::Scheme;
 const START: u8 = 2;
 
 // No `impl Model`: seen through one, the board would be a list, and no longer known from its type to be in rank
-// order and of at most 32 fixes. So contracts see a link by `state_of`.
+// order and of at most 32 fixes. So contracts see a link by `state_of`. They name the two schemes, the reading, the
+// fix and the entering of a fix each time: a promise is over these, and a word for them would hide it.
 #[derive(Drop)]
 pub struct Link<A, B> {
     held: HeldBytes,

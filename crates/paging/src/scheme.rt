@@ -28,7 +28,7 @@ pub trait Scheme {
 
     ghost model: { Model };
 
-    // The key, the page and the total of a header.
+    // The key, the page and the total of a header: plain numbers, as they stand in it.
     fn read(data: &[u8]) -> Result<(u32, u16, u16), PageFault>
         ensures { result ≡ read_by model «data».now };
 
@@ -45,7 +45,7 @@ pub trait Scheme {
     }
 
     // Puts the header at the start of the bytes where it fits, and says whether it did: yes or no is all that
-    // there is to say. Else nothing is written.
+    // there is to say, and no caller ends by it. Else nothing is written.
     fn write(header: Header, out: &mut [u8]) -> bool
         ensures answer { result ≡ header_fits model header (length out.old) }
         ensures bytes { out.new ≡ headed model header out.old };

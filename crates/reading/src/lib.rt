@@ -9,7 +9,8 @@ use records::fault::RecordFault;
 use records::kind::Kind;
 use records::{position, survey};
 
-// Whether a body is a record of its kind; a report of no kind is none. The lowest byte of a survey's key is its interpretation flags.
+// Whether a body is a record of its kind; a report of no kind is none. The lowest byte of a survey's key is its
+// interpretation flags.
 pub fn read_report(kind: Option<Kind>, key: u32, body: &[u8]) -> Result<(), RecordFault>
     ensures { reading_of result ≡ reading kind key body.now }
 {

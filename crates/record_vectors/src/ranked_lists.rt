@@ -25,7 +25,7 @@ struct Group {
 }
 
 // PRN:SNR
-#[derive(Clone, Copy)]
+#[derive(Clone, Copy, Debug, PartialEq, Eq)]
 pub struct SignalText(pub Signal);
 
 impl fmt::Display for SignalText {
@@ -50,7 +50,8 @@ pub(crate) fn times<T: PartialEq>(list: &[T], entry: &T) -> usize {
     list.iter().filter(|other| *other == entry).count()
 }
 
-// COUNT, then PRN:SNR for each place used.
+// COUNT, then PRN:SNR for each place used. (A count beside the list here and below: it is what the call answered, and
+// may be wrong.)
 pub(crate) fn list_text(heap: Global, count: usize, list: &[Signal]) -> anyhow::Result<String> {
     let mut text = format!(in heap; "{count}")?;
     for signal in list.iter().take(count) {

@@ -22,8 +22,8 @@ pub fn run(rt: &HostRuntime) -> anyhow::Result<()> {
     tally.print()
 }
 
-// What the code says of a case; for a ranked list what is to come, if the list is one of those it allows. (A match on the
-// case's word, since each takes other words behind it.)
+// What the code says of a case; for a ranked list what is to come, if the list is one of those it allows.
+// (A match on the case's word, since each takes other words behind it.)
 pub fn answer(heap: Global, case: &str, want: &str) -> anyhow::Result<String> {
     let mut words = Words::of(heap, case);
     match words.word()? {

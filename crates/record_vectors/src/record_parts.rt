@@ -15,7 +15,7 @@ fn part(bytes: Option<&[u8]>) -> Hex<'_> {
 }
 
 // PLACE:PRN:FLAGS1:FLAGS2:ELEVATION:AZIMUTH:L1:L2:EXTRA
-#[derive(Clone, Copy)]
+#[derive(Clone, Copy, Debug, PartialEq, Eq)]
 struct SatelliteText<'a>(Satellite<'a>);
 
 impl fmt::Display for SatelliteText<'_> {
@@ -40,7 +40,7 @@ impl fmt::Display for SatelliteText<'_> {
 }
 
 // PLACE:SORT:TYPE:DATA
-#[derive(Clone, Copy)]
+#[derive(Clone, Copy, Debug, PartialEq, Eq)]
 struct RecordText<'a>(Record<'a>);
 
 impl fmt::Display for RecordText<'_> {

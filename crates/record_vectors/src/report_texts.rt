@@ -30,7 +30,7 @@ pub fn report_reading(scheme: PageScheme, key: u32, body: &[u8]) -> Result<(), R
 }
 
 // KEY PAGE TOTAL, or the refusal.
-#[derive(Clone, Copy)]
+#[derive(Clone, Copy, Debug, PartialEq, Eq)]
 pub struct HeaderText(pub Result<(u32, u16, u16), PageFault>);
 
 impl fmt::Display for HeaderText {

@@ -66,7 +66,7 @@ pub fn head(body: &[u8]) -> Result<SurveyHead, RecordFault>
     })
 }
 
-// Whether the bytes are a survey with these interpretation flags.
+// Whether the bytes are a survey with these interpretation flags. (`application::check` says why both loop.)
 pub fn check(body: &[u8], flags: u8) -> Result<(), RecordFault>
     ensures { reading_of result ≡ survey_reading flags body.now }
 {

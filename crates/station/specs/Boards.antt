@@ -1,5 +1,5 @@
 -- The board of a capture, and its rows as C has them.
-use Rattle.std.specs.Prelude.{◌≡◌, ℕ, List, ◌++◌, map, length, take, drop}
+use Rattle.std.specs.Prelude.{◌≡◌, ℕ, min, List, ◌++◌, map, length, take, drop}
 use Rattle.reading.specs.Readings.{reading}
 use Rattle.fixes.specs.declared.fix.Fix.{Fix}
 use Rattle.fixes.specs.Views.{enter}
@@ -25,3 +25,7 @@ row_of f = record { key = f.key; time = f.time; pdop = f.pdop; satellites = f.sa
 -- the best fixes, as many as there are and as fit, and behind them the rows as they were
 abbrev pub rows_of : List Fix → List StationFix → List StationFix
 rows_of board rows = map row_of (take (length rows) board) ++ drop (length board) rows
+
+-- the rows have the best fixes of the board of a capture, and so many are used
+abbrev pub BestRows : List ℕ → List StationFix → ℕ → List StationFix → Type 0
+BestRows capture before count after = (board : List Fix) × BoardOf capture board × (count ≡ min (length board) (length before)) × (after ≡ rows_of board before)

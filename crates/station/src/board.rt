@@ -1,8 +1,7 @@
 // The board of a whole capture.
-ghost use Rattle.std.specs.Prelude.{◌≡◌, ℕ, min, List, length};
-ghost use Rattle.fixes.specs.declared.fix.Fix.{Fix as Fixed};
+ghost use Rattle.std.specs.Prelude.{◌≡◌, [], min, length};
 ghost use Rattle.link.specs.Views.{state_of};
-ghost use Rattle.station.specs.Boards.{BoardOf, row_of, rows_of};
+ghost use Rattle.station.specs.Boards.{BestRows, row_of, rows_of};
 
 use fixes::Fix;
 use line::Line;
@@ -34,10 +33,11 @@ impl From<Fix> for StationFix {
     }
 }
 
-// Pulls a new link to idle over what waits on the line and puts the best fixes, the best one first, into
-// the rows, as many as there are and as fit. Answers how many; the other rows are as before.
+// Pulls a new link to idle over what waits on the line, after which nothing does, and puts the best fixes, the best
+// one first, into the rows, as many as there are and as fit. Answers how many; the other rows are as before.
 pub fn station_board<L: Line>(line: &mut L, rows: &mut [StationFix]) -> usize
-    ensures { (board : List Fixed) × BoardOf (L.Line.waiting line.old) board × (result ≡ min (length board) (length rows.old)) × (rows.new ≡ rows_of board rows.old) }
+    ensures board { BestRows (L.Line.waiting line.old) rows.old result rows.new }
+    ensures waiting { L.Line.waiting line.new ≡ [] }
 {
     let mut link: Link<RawData, AppFile> = Link::new();
     let _held = link.pull_to_idle(line);

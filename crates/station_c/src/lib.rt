@@ -6,9 +6,7 @@
 // written before; and no memory that is written is reached by another pointer.
 #![tactic(auto)]
 
-ghost use Rattle.std.specs.Prelude.{◌≡◌, min, List, length};
-ghost use Rattle.fixes.specs.declared.fix.Fix.{Fix as Fixed};
-ghost use Rattle.station.specs.Boards.{BoardOf, rows_of};
+ghost use Rattle.station.specs.Boards.{BestRows};
 
 use line::Capture;
 use line::read_ahead::ReadAhead;
@@ -18,7 +16,7 @@ use station::StationFix;
 // many as there are and as fit. Answers how many; the other rows are as before.
 #[unsafe(no_mangle)]
 pub extern "C" fn station_board(capture: &[u8], rows: &mut [StationFix]) -> usize
-    ensures { (board : List Fixed) × BoardOf capture.now board × (result ≡ min (length board) (length rows.old)) × (rows.new ≡ rows_of board rows.old) }
+    ensures { BestRows capture.now rows.old result rows.new }
 {
     station::station_board(&mut Capture::new(capture), rows)
 }
@@ -26,7 +24,7 @@ pub extern "C" fn station_board(capture: &[u8], rows: &mut [StationFix]) -> usiz
 // The same through the read-ahead. C cannot call a generic function, so each line has a function here.
 #[unsafe(no_mangle)]
 pub extern "C" fn station_board_ahead(capture: &[u8], rows: &mut [StationFix]) -> usize
-    ensures { (board : List Fixed) × BoardOf capture.now board × (result ≡ min (length board) (length rows.old)) × (rows.new ≡ rows_of board rows.old) }
+    ensures { BestRows capture.now rows.old result rows.new }
 {
     station::station_board(&mut ReadAhead::new(Capture::new(capture)), rows)
 }

@@ -73,7 +73,7 @@ pub fn report_parts(answer: &str) -> Option<(&str, &str)> {
 }
 
 // A survey in the expanded form, shown as BITS, COUNT and the PRNs.
-#[derive(Clone, Copy)]
+#[derive(Clone, Copy, Debug, PartialEq, Eq)]
 pub struct Expanded<'a> {
     body: &'a [u8],
     head: SurveyHead,
@@ -110,6 +110,7 @@ impl fmt::Display for Expanded<'_> {
             ..
         } = self.head;
         write!(f, "{receive_time:016X} {count}")?;
+        // A place kept by hand: a PRN is printed at each step, and the step's size stands in the bytes.
         let mut at = HEAD_SIZE;
         for _ in 0..count {
             let (Some(prn), Some(behind)) = (self.body.get(at), self.behind(at)) else {

@@ -5,7 +5,7 @@ use std::fmt;
 use vectors::refusals::Refused;
 
 // lawful STATUS TYPE LENGTH DATA, or why there is no packet.
-#[derive(Clone, Copy)]
+#[derive(Clone, Copy, Debug, PartialEq, Eq)]
 pub struct PacketText<'a>(pub Option<Result<Packet<'a>, PacketFault>>);
 
 impl fmt::Display for PacketText<'_> {

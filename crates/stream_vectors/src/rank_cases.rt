@@ -5,7 +5,7 @@ use vectors::tally::Tally;
 use vectors::words::{Words, is_remark};
 
 // A DOUBLE's bits, shown as its rank key and its thousandths.
-#[derive(Clone, Copy)]
+#[derive(Clone, Copy, Debug, PartialEq, Eq)]
 pub struct DoubleText(pub u64);
 
 impl fmt::Display for DoubleText {

@@ -5,6 +5,7 @@ use packet::write::{WriteFault, write};
 use std::alloc::{AllocError, Global};
 use std::{fmt, fs};
 use vectors::refusals::Refused;
+use vectors::schemes::PageScheme;
 use vectors::tally::Tally;
 use vectors::words::{Words, halves, is_remark};
 
@@ -50,10 +51,7 @@ fn packet_case(words: &mut Words<'_>) -> anyhow::Result<String> {
     let kind = words.byte()?;
     let room = words.number::<u32>()?;
     let data = words.source()?;
-    let mut out = destination(words.heap, room)?;
-    let answer = write(status, kind, data.as_slice(), out.as_mut_slice());
-    let out = out.as_slice();
-    words.text(WriterAnswer { answer, out })
+    Ok(packet_written(words.heap, room, status, kind, data.as_slice())?)
 }
 
 fn pages_case(words: &mut Words<'_>) -> anyhow::Result<String> {
@@ -61,14 +59,39 @@ fn pages_case(words: &mut Words<'_>) -> anyhow::Result<String> {
     let key = words.number::<u32>()?;
     let room = words.number::<u32>()?;
     let report = words.source()?;
-    let mut out = destination(words.heap, room)?;
-    let answer = scheme.write(key, report.as_slice(), out.as_mut_slice());
+    Ok(pages_written(words.heap, room, scheme, key, report.as_slice())?)
+}
+
+// What the packet writer makes of a destination of so many bytes.
+pub fn packet_written(
+    heap: Global,
+    room: u32,
+    status: u8,
+    kind: u8,
+    data: &[u8],
+) -> Result<String, AllocError> {
+    let mut out = destination(heap, room)?;
+    let answer = write(status, kind, data, out.as_mut_slice());
     let out = out.as_slice();
-    words.text(WriterAnswer { answer, out })
+    WriterAnswer { answer, out }.to_string(heap)
+}
+
+// The same of the page writer.
+pub fn pages_written(
+    heap: Global,
+    room: u32,
+    scheme: PageScheme,
+    key: u32,
+    report: &[u8],
+) -> Result<String, AllocError> {
+    let mut out = destination(heap, room)?;
+    let answer = scheme.write(key, report, out.as_mut_slice());
+    let out = out.as_slice();
+    WriterAnswer { answer, out }.to_string(heap)
 }
 
 // A destination of so many bytes.
-pub fn destination(heap: Global, room: u32) -> Result<Vec<u8>, AllocError> {
+fn destination(heap: Global, room: u32) -> Result<Vec<u8>, AllocError> {
     Ok(vec![in heap; FILL; room as usize]?)
 }
 
@@ -85,10 +108,10 @@ fn is_untouched(bytes: &[u8]) -> bool {
 
 // A writer's answer and its destination: the number of bytes written, and the bytes or their fold, if all behind them
 // is untouched.
-#[derive(Clone, Copy)]
-pub struct WriterAnswer<'a> {
-    pub answer: Result<usize, WriteFault>,
-    pub out: &'a [u8],
+#[derive(Clone, Copy, Debug, PartialEq, Eq)]
+struct WriterAnswer<'a> {
+    answer: Result<usize, WriteFault>,
+    out: &'a [u8],
 }
 
 impl fmt::Display for WriterAnswer<'_> {

@@ -1,5 +1,7 @@
 // The page schemes, by the packet types that stand for them in a case.
-ghost use Rattle.std.specs.Prelude.{◌≡◌, length, IfOk};
+ghost use Rattle.std.specs.Prelude.{◌≡◌, ◌≢◌, length, IfOk, IfErr};
+ghost use Rattle.paging.specs.RawDatas.{raw_data};
+ghost use Rattle.paging.specs.AppFiles.{app_file};
 ghost use Rattle.packet.specs.Writes.{put};
 ghost use Rattle.paging.specs.Headers.{read_by};
 ghost use Rattle.writing.specs.Writes.{written, report_sent};
@@ -23,7 +25,7 @@ pub enum PageScheme {
 impl TryFrom<u32> for PageScheme {
     type Error = anyhow::Error;
 
-    ghost try_from_gives = { λ packet_type r. IfOk r (λ scheme. (model_of scheme).type ≡ packet_type) };
+    ghost try_from_gives = { λ packet_type r. IfOk r (λ scheme. (model_of scheme).type ≡ packet_type) × IfErr r (λ _. (packet_type ≢ raw_data.type) × (packet_type ≢ app_file.type)) };
 
     fn try_from(packet_type: u32) -> anyhow::Result<PageScheme> {
         if packet_type == u32::from(RawData::TYPE) {

@@ -79,7 +79,8 @@ impl<'a> Iterator for Words<'a> {
     }
 }
 
-// Whether a line says nothing: it is empty, or a remark.
+// Whether a line says nothing (the loop over those that do stands in each file of cases: a function that took what to do
+// with them as a closure would be public with a `requires`): it is empty, or a remark.
 pub fn is_remark(line: &str) -> bool {
     line.is_empty() || line.starts_with('#')
 }

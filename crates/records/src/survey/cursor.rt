@@ -4,7 +4,7 @@ ghost use Rattle.records.specs.SurveyCursors.{still, new_gives, started, Gave};
 ghost use Rattle.std.specs.Iterator.{item_count};
 
 use crate::fault::RecordFault;
-use crate::survey::{COUNT_PLACE, HEAD_SIZE, Satellite, read_satellite};
+use crate::survey::{HEAD_SIZE, Satellite, head, read_satellite};
 
 // `left` satellites are to come, the next one from `at` on; behind a fault none is, and `at` is the end.
 // (A place in the body, and not the rest alone, since a satellite and a fault have theirs.)
@@ -21,13 +21,11 @@ impl<'a> Satellites<'a> {
     pub fn new(body: &'a [u8], flags: u8) -> Result<Satellites<'a>, RecordFault>
         ensures { new_gives result ≡ started flags body.now }
     {
-        if body.len() < HEAD_SIZE {
-            return Err(RecordFault::EndsTooSoon(body.len()));
-        }
+        let head = head(body)?;
         Ok(Satellites {
             body,
             enhanced: flags & 2 != 0,
-            left: body[COUNT_PLACE],
+            left: head.count,
             at: HEAD_SIZE,
         })
     }
