@@ -2,7 +2,7 @@
 use std::alloc::Global;
 use std::io;
 use std::io::ErrorKind;
-use vectors::hex_text::source;
+use vectors::hex_text::by_rule;
 use vectors::schemes::PageScheme;
 
 // A longer line is printed without its bytes.
@@ -49,7 +49,29 @@ pub fn low_byte(number: u32) -> u8 {
 
 // Hex digits, `-` for no bytes, or rule:N for N bytes by a rule.
 pub fn source_of(heap: Global, word: &str) -> io::Result<Vec<u8>> {
-    source(heap, word).map_err(|_| ErrorKind::InvalidData.into())
+    if word == "-" {
+        return Ok(Vec::new(heap));
+    }
+    let Some(count) = word.strip_prefix("rule:") else {
+        return from_hex(heap, word);
+    };
+    match count.parse::<u32>() {
+        Ok(count) => Ok(by_rule(heap, count)?),
+        Err(_) => Err(ErrorKind::InvalidData.into()),
+    }
+}
+
+// Two digits for each byte. (Not as `vectors::hex_text` has it: no white space, and a pair may be a sign and a digit.)
+fn from_hex(heap: Global, word: &str) -> io::Result<Vec<u8>> {
+    let mut bytes = Vec::new(heap);
+    for at in (0..word.len()).step_by(2) {
+        let pair = word.get(at..at.saturating_add(2)).unwrap_or("half a byte");
+        let Ok(byte) = u8::from_str_radix(pair, 16) else {
+            return Err(ErrorKind::InvalidData.into());
+        };
+        bytes.push(byte)?;
+    }
+    Ok(bytes)
 }
 
 // The scheme of a packet type; any other type is taken as that of application files.

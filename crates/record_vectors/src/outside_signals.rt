@@ -10,13 +10,13 @@ use std::alloc::Global;
 use std::fs;
 use vectors::hex_text::part;
 use vectors::tally::Tally;
-use vectors::words::{Words, is_remark};
+use vectors::words::Words;
 
 pub fn run(rt: &HostRuntime) -> anyhow::Result<()> {
     let bodies = fs::read_to_string(rt, "outside/rtklib-signals.hex")?;
     let mut tally = Tally::new(rt, "outside, ranked signals");
     let text = fs::read_to_string(rt, "outside/rtklib-signals.txt")?;
-    for line in text.as_str().lines().filter(|line| !is_remark(line)) {
+    for line in text.as_str().lines() {
         let got = ranked(rt.alloc(), bodies.as_str(), line)?;
         tally.compare(line, line, got.as_str())?;
     }

@@ -8,6 +8,7 @@ use records::{position, survey};
 use std::alloc::Global;
 use std::fs;
 use vectors::refusals::Reading;
+use vectors::schemes::PageScheme;
 use vectors::tally::Tally;
 use vectors::words::{Words, halves, is_remark};
 
@@ -57,20 +58,24 @@ fn survey_reading(words: &mut Words<'_>) -> anyhow::Result<String> {
 }
 
 fn kind(words: &mut Words<'_>) -> anyhow::Result<String> {
-    let scheme = words.scheme()?;
+    let packet_type = words.byte()?;
     let key = words.number::<u32>()?;
+    let scheme = PageScheme::try_from(u32::from(packet_type))?;
     words.text(kind_name(scheme, key))
 }
 
 fn reading_of_report(words: &mut Words<'_>) -> anyhow::Result<String> {
-    let scheme = words.scheme()?;
+    let packet_type = words.byte()?;
     let key = words.number::<u32>()?;
-    reading_by(words, |body| report_reading(scheme, key, body))
+    let body = words.bytes()?;
+    let scheme = PageScheme::try_from(u32::from(packet_type))?;
+    words.text(Reading(report_reading(scheme, key, body.as_slice())))
 }
 
 fn header(words: &mut Words<'_>) -> anyhow::Result<String> {
-    let scheme = words.scheme()?;
+    let packet_type = words.byte()?;
     let data = words.bytes()?;
+    let scheme = PageScheme::try_from(u32::from(packet_type))?;
     words.text(HeaderText(scheme.read(data.as_slice())))
 }
 

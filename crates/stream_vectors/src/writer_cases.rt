@@ -55,10 +55,11 @@ fn packet_case(words: &mut Words<'_>) -> anyhow::Result<String> {
 }
 
 fn pages_case(words: &mut Words<'_>) -> anyhow::Result<String> {
-    let scheme = words.scheme()?;
+    let packet_type = words.byte()?;
     let key = words.number::<u32>()?;
     let room = words.number::<u32>()?;
     let report = words.source()?;
+    let scheme = PageScheme::try_from(u32::from(packet_type))?;
     Ok(pages_written(words.heap, room, scheme, key, report.as_slice())?)
 }
 

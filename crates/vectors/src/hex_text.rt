@@ -42,7 +42,7 @@ pub fn source(heap: Global, text: &str) -> anyhow::Result<Vec<u8>> {
 }
 
 // Byte i is 7 i + 13 (i div 256) + 5, modulo 256.
-fn by_rule(heap: Global, count: u32) -> Result<Vec<u8>, AllocError> {
+pub fn by_rule(heap: Global, count: u32) -> Result<Vec<u8>, AllocError> {
     (0..count)
         .map(|i| {
             let sum = i

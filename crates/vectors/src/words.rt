@@ -4,7 +4,6 @@ ghost use Rattle.std.specs.Iterator.{at_most};
 ghost use Rattle.std.specs.Str.Iter.{split_whitespace_steps, split_whitespace_rest};
 
 use crate::hex_text::{bytes_of, source};
-use crate::schemes::PageScheme;
 use anyhow::Context;
 use std::alloc::Global;
 use std::error::Error;
@@ -44,11 +43,6 @@ impl<'a> Words<'a> {
         N::Err: Error,
     {
         Ok(self.word()?.parse::<N>()?)
-    }
-
-    // A packet type, two hex digits.
-    pub fn scheme(&mut self) -> anyhow::Result<PageScheme> {
-        PageScheme::try_from(u32::from(self.byte()?))
     }
 
     // A word of bytes in hex digits, `-` for none.
