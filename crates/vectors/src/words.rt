@@ -73,8 +73,8 @@ impl<'a> Iterator for Words<'a> {
     }
 }
 
-// Whether a line says nothing (the loop over those that do stands in each file of cases: a function that took what to do
-// with them as a closure would be public with a `requires`): it is empty, or a remark.
+// Whether a line says nothing: it is empty, or a remark. (Each file of cases has its own loop over the lines that say
+// something: one function for all, given what to do as a closure, would be public with a `requires`.)
 pub fn is_remark(line: &str) -> bool {
     line.is_empty() || line.starts_with('#')
 }
