@@ -1,4 +1,8 @@
 // A case, read from its line.
+ghost use Rattle.std.specs.Prelude.{◌≡◌, ◌≢◌, ◌%◌};
+ghost use Rattle.paging.specs.RawDatas.{raw_data};
+ghost use Rattle.vectors.specs.declared.schemes.PageScheme.TheVariants.{RawData, AppFile};
+
 use std::alloc::Global;
 use std::io;
 use std::io::ErrorKind;
@@ -43,7 +47,9 @@ fn number(word: Option<&str>) -> Option<u32> {
     }
 }
 
-pub fn low_byte(number: u32) -> u8 {
+pub fn low_byte(number: u32) -> u8
+    ensures { result ≡ number % 256 }
+{
     (number % 256) as u8
 }
 
@@ -75,6 +81,9 @@ fn from_hex(heap: Global, word: &str) -> io::Result<Vec<u8>> {
 }
 
 // The scheme of a packet type; any other type is taken as that of application files.
-pub fn scheme_of(packet_type: u32) -> PageScheme {
+pub fn scheme_of(packet_type: u32) -> PageScheme
+    ensures raw_data { packet_type ≡ raw_data.type → result ≡ RawData }
+    ensures other { packet_type ≢ raw_data.type → result ≡ AppFile }
+{
     PageScheme::try_from(packet_type).unwrap_or(PageScheme::AppFile)
 }

@@ -1,4 +1,6 @@
 // Ranked lists of signals. The order among equal SNR is free, so a list is held against groups of equal SNR.
+ghost use Rattle.std.specs.Prelude.{◌≡◌, replicate, IfOk};
+
 use anyhow::Context;
 use records::fault::RecordFault;
 use signals::{Signal, rank_signals};
@@ -36,7 +38,9 @@ impl fmt::Display for SignalText {
 }
 
 // A list of so many places, none of them used.
-pub fn blank_list(heap: Global, places: u32) -> Result<Vec<Signal>, AllocError> {
+pub fn blank_list(heap: Global, places: u32) -> Result<Vec<Signal>, AllocError>
+    ensures { IfOk result (λ list. list.items ≡ replicate places BLANK) }
+{
     Ok(vec![in heap; BLANK; places as usize]?)
 }
 

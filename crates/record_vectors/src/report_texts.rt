@@ -3,6 +3,7 @@ ghost use Rattle.std.specs.Prelude.{◌≡◌};
 ghost use Rattle.records.specs.Faults.{reading_of};
 ghost use Rattle.reading.specs.Readings.{reading};
 ghost use Rattle.vectors.specs.Named.{model_of};
+ghost use Rattle.record_vectors.specs.Kinds.{kind_text};
 
 use paging::fault::PageFault;
 use reading::read_report;
@@ -13,7 +14,9 @@ use vectors::refusals::Refused;
 use vectors::schemes::PageScheme;
 
 // The kind that a scheme gives a key.
-pub fn kind_name(scheme: PageScheme, key: u32) -> &'static str {
+pub fn kind_name(scheme: PageScheme, key: u32) -> &'static str
+    ensures { result.now ≡ kind_text ((model_of scheme).means key) }
+{
     match scheme.means(key) {
         Some(Kind::Position) => "position",
         Some(Kind::Survey) => "survey",

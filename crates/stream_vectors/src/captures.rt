@@ -1,4 +1,9 @@
 // The captures: the answers of their pulls, and the rows of their boards.
+ghost use Rattle.std.specs.Prelude.{◌≡◌, List, IfOk, string_bytes};
+ghost use Rattle.fixes.specs.declared.fix.Fix.{Fix as Fixed};
+ghost use Rattle.station.specs.Boards.{BoardOf};
+ghost use Rattle.rows.specs.Rows.{board_text};
+
 use answers::log;
 use line::Capture;
 use line::read_ahead::ReadAhead;
@@ -38,7 +43,9 @@ fn kept(rt: &HostRuntime, name: &str, ending: &str) -> anyhow::Result<String> {
 }
 
 // The rows of a capture's board, pulled over the read-ahead.
-pub fn board_of(heap: Global, capture: &[u8]) -> Result<String, AllocError> {
+pub fn board_of(heap: Global, capture: &[u8]) -> Result<String, AllocError>
+    ensures { IfOk result (λ text. (board : List Fixed) × BoardOf capture.now board × (string_bytes text ≡ board_text board)) }
+{
     let mut line = ReadAhead::new(Capture::new(capture));
     let mut link: Link<RawData, AppFile> = Link::new();
     let _held = link.pull_to_idle(&mut line);

@@ -1,4 +1,10 @@
 // The cases of writers.txt: the packet writer and the page writer.
+ghost use Rattle.std.specs.Prelude.{◌≡◌, length, replicate, IfOk};
+ghost use Rattle.packet.specs.Packets.{frame};
+ghost use Rattle.packet.specs.Writes.{sent, put};
+ghost use Rattle.writing.specs.Writes.{written, report_sent};
+ghost use Rattle.vectors.specs.Named.{model_of};
+
 use answers::Hex;
 use anyhow::{Context, bail};
 use packet::write::{WriteFault, write};
@@ -51,7 +57,7 @@ fn packet_case(words: &mut Words<'_>) -> anyhow::Result<String> {
     let kind = words.byte()?;
     let room = words.number::<u32>()?;
     let data = words.source()?;
-    Ok(packet_written(words.heap, room, status, kind, data.as_slice())?)
+    words.text(packet_written(words.heap, room, status, kind, data.as_slice())?)
 }
 
 fn pages_case(words: &mut Words<'_>) -> anyhow::Result<String> {
@@ -60,7 +66,7 @@ fn pages_case(words: &mut Words<'_>) -> anyhow::Result<String> {
     let room = words.number::<u32>()?;
     let report = words.source()?;
     let scheme = PageScheme::try_from(u32::from(packet_type))?;
-    Ok(pages_written(words.heap, room, scheme, key, report.as_slice())?)
+    words.text(pages_written(words.heap, room, scheme, key, report.as_slice())?)
 }
 
 // What the packet writer makes of a destination of so many bytes.
@@ -70,11 +76,12 @@ pub fn packet_written(
     status: u8,
     kind: u8,
     data: &[u8],
-) -> Result<String, AllocError> {
+) -> Result<WriterAnswer, AllocError>
+    ensures { IfOk result (λ w. (w.answer ≡ sent (length «data».now) room) × (w.out.items ≡ put w.answer (frame (record { status = status; type = kind; content = «data».now })) (replicate room FILL))) }
+{
     let mut out = destination(heap, room)?;
     let answer = write(status, kind, data, out.as_mut_slice());
-    let out = out.as_slice();
-    WriterAnswer { answer, out }.to_string(heap)
+    Ok(WriterAnswer { answer, out })
 }
 
 // The same of the page writer.
@@ -84,15 +91,18 @@ pub fn pages_written(
     scheme: PageScheme,
     key: u32,
     report: &[u8],
-) -> Result<String, AllocError> {
+) -> Result<WriterAnswer, AllocError>
+    ensures { IfOk result (λ w. (w.answer ≡ report_sent (model_of scheme) key report.now room) × (w.out.items ≡ put w.answer (written (model_of scheme) key report.now) (replicate room FILL))) }
+{
     let mut out = destination(heap, room)?;
     let answer = scheme.write(key, report, out.as_mut_slice());
-    let out = out.as_slice();
-    WriterAnswer { answer, out }.to_string(heap)
+    Ok(WriterAnswer { answer, out })
 }
 
 // A destination of so many bytes.
-fn destination(heap: Global, room: u32) -> Result<Vec<u8>, AllocError> {
+fn destination(heap: Global, room: u32) -> Result<Vec<u8>, AllocError>
+    ensures { IfOk result (λ out. out.items ≡ replicate room FILL) }
+{
     Ok(vec![in heap; FILL; room as usize]?)
 }
 
@@ -109,16 +119,16 @@ fn is_untouched(bytes: &[u8]) -> bool {
 
 // A writer's answer and its destination: the number of bytes written, and the bytes or their fold, if all behind them
 // is untouched.
-#[derive(Clone, Copy, Debug, PartialEq, Eq)]
-struct WriterAnswer<'a> {
-    answer: Result<usize, WriteFault>,
-    out: &'a [u8],
+#[derive(Debug, Drop)]
+pub struct WriterAnswer {
+    pub answer: Result<usize, WriteFault>,
+    pub out: Vec<u8>,
 }
 
-impl fmt::Display for WriterAnswer<'_> {
+impl fmt::Display for WriterAnswer {
     fn fmt<W: fmt::Write>(&self, f: &mut fmt::Formatter<W>) -> fmt::Result {
         let count = self.answer.unwrap_or(0);
-        let Some((bytes, behind)) = self.out.split_at_checked(count) else {
+        let Some((bytes, behind)) = self.out.as_slice().split_at_checked(count) else {
             return write!(f, "more bytes than there is room for");
         };
         if !is_untouched(behind) {
