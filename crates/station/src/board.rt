@@ -4,7 +4,8 @@ ghost use Rattle.link.specs.Views.{state_of};
 ghost use Rattle.station.specs.Boards.{BestRows, row_of, rows_of};
 
 use fixes::Fix;
-use line::Line;
+use line::read_ahead::ReadAhead;
+use line::{Capture, Line};
 use link::Link;
 use paging::app_file::AppFile;
 use paging::raw_data::RawData;
@@ -33,9 +34,26 @@ impl From<Fix> for StationFix {
     }
 }
 
-// Pulls a new link to idle over what waits on the line, after which nothing does, and puts the best fixes, the best
-// one first, into the rows, as many as there are and as fit. Answers how many; the other rows are as before.
-pub fn station_board<L: Line>(line: &mut L, rows: &mut [StationFix]) -> usize
+// Pulls a new link to idle over the capture and puts the best fixes, the best one first, into the rows, as
+// many as there are and as fit. Answers how many; the other rows are as before.
+pub fn station_board(capture: &[u8], rows: &mut [StationFix]) -> usize
+    ensures { BestRows capture.now rows.old result rows.new }
+{
+    let mut line = Capture::new(capture);
+    station_board_of_line(&mut line, rows)
+}
+
+// The same through the read-ahead.
+pub fn station_board_ahead(capture: &[u8], rows: &mut [StationFix]) -> usize
+    ensures { BestRows capture.now rows.old result rows.new }
+{
+    let mut line = ReadAhead::new(Capture::new(capture));
+    station_board_of_line(&mut line, rows)
+}
+
+// The same over what waits on any line, after which nothing does. (The two above are for callers that have bytes
+// and no line.)
+pub fn station_board_of_line<L: Line>(line: &mut L, rows: &mut [StationFix]) -> usize
     ensures board { BestRows (L.Line.waiting line.old) rows.old result rows.new }
     ensures waiting { L.Line.waiting line.new ≡ [] }
 {

@@ -8,8 +8,6 @@
 
 ghost use Rattle.station.specs.Boards.{BestRows};
 
-use line::Capture;
-use line::read_ahead::ReadAhead;
 use station::StationFix;
 
 // Pulls a new link to idle over the capture and puts the best fixes, the best one first, into the rows, as
@@ -18,7 +16,7 @@ use station::StationFix;
 pub extern "C" fn station_board(capture: &[u8], rows: &mut [StationFix]) -> usize
     ensures { BestRows capture.now rows.old result rows.new }
 {
-    station::station_board(&mut Capture::new(capture), rows)
+    station::station_board(capture, rows)
 }
 
 // The same through the read-ahead. C cannot call a generic function, so each line has a function here.
@@ -26,5 +24,5 @@ pub extern "C" fn station_board(capture: &[u8], rows: &mut [StationFix]) -> usiz
 pub extern "C" fn station_board_ahead(capture: &[u8], rows: &mut [StationFix]) -> usize
     ensures { BestRows capture.now rows.old result rows.new }
 {
-    station::station_board(&mut ReadAhead::new(Capture::new(capture)), rows)
+    station::station_board_ahead(capture, rows)
 }
