@@ -52,4 +52,4 @@ returns-in-Ok g c =
     let same : p ≡ parsed x = same_packet q.status q.kind q.data.now x is.1 is.2 is.3 in
     opened_lawful a b reading fix_of enter l v buf h2 v2 f p (length q.data.now + 6) c.pass-in-Ok.new.self
     (record { answer = answer_of c.send-answer.result; first = c.send-answer.new.first.held; second = c.send-answer.new.second.held; board = board_of c.send-answer.new.board; buffer = c.send-answer.new.buffer })
-    (ap front (sym c.all.ensures.value) ∙ is.0 ∙ ap (λ y. lawful (parsed y)) c.all.ensures.value) (same ∙ ap parsed c.all.ensures.value) refl c.pass-in-Ok.ensures.held c.send-answer.ensures
+    (ap front (sym c.all.ensures.value) ∙ is.0 ∙ ap (λ y. lawful (parsed y)) c.all.ensures.value) (same ∙ ap parsed c.all.ensures.value) refl c.pass-in-Ok.ensures.held c.send-answer.ensures.packet
