@@ -1,5 +1,5 @@
 -- What a page does to the pages held of its scheme.
-use Rattle.std.specs.Prelude.{ℕ, ◌+◌, Bool, cond, ◌&&◌, List, [], ◌++◌, length, drop, ◌==◌, nat_le}
+use Rattle.std.specs.Prelude.{ℕ, ◌+◌, ◌≤◌, Bool, cond, ◌&&◌, List, [], ◌++◌, length, drop, ◌==◌, nat_le}
 use Rattle.refusal.specs.declared.Refusal.{Refusal}
 use Rattle.paging.specs.declared.header.Header.{Header}
 use Rattle.paging.specs.Schemes.{Scheme, Head, reads, too_short, unfit}
@@ -20,6 +20,10 @@ no_pages = record { key = 0; total = 0; count = 0; joined = [] }
 pub record Collection : Type 0 where
   pub held : Held
   pub bytes : List ℕ
+
+-- the room of a store bounds the bodies joined and the bytes
+abbrev pub InRoom : Collection → Type 0
+InRoom c = (length c.held.joined ≤ 8064) × (length c.bytes ≤ 8064)
 
 -- what a page makes of the pages held: more pages, a whole report, or a refusal
 pub data Joined : Type 0 where

@@ -1,6 +1,6 @@
 // The pages held of one scheme, written once for every scheme.
-ghost use Rattle.std.specs.Prelude.{◌≡◌, ◌≤◌, [], length, ◌≢◌};
-ghost use Rattle.joining.specs.Joining.{Collection, collected, next_page, no_pages};
+ghost use Rattle.std.specs.Prelude.{◌≡◌, ◌≤◌, IfOk, [], length, ◌≢◌};
+ghost use Rattle.joining.specs.Joining.{Collection, InRoom, collected, next_page, no_pages};
 ghost use Rattle.joining.specs.Views.{held_by, joined_of, told_by, Emptied};
 
 use crate::store::Store;
@@ -34,7 +34,8 @@ impl<S> Model for Collector<S> {
 
 impl<S: Scheme> Collector<S> {
     pub fn new() -> Collector<S>
-        ensures { result.held ≡ no_pages }
+        ensures held { result.held ≡ no_pages }
+        ensures bytes { result.bytes ≡ [] }
     {
         Collector {
             store: Store::new(),
@@ -62,7 +63,8 @@ impl<S: Scheme> Collector<S> {
 
     // Joins a page to those held, which a refusal leaves to be dropped.
     fn join(&mut self, data: &[u8]) -> Result<Step, PageFault>
-        ensures { told_by result self.new.bytes self.new.held ≡ collected S.Scheme.model «data».now self.old.held }
+        ensures page { told_by result self.new.bytes self.new.held ≡ collected S.Scheme.model «data».now self.old.held }
+        ensures room { IfOk result (λ step. InRoom self.new) }
     {
         let (key, page, total) = S::read(data)?;
         let header = Header { key, page, total };
@@ -86,6 +88,7 @@ impl<S: Scheme> Collector<S> {
     pub fn add(&mut self, data: &[u8]) -> Result<Step, PageFault>
         ensures page { record { joined = joined_of result self.new.bytes; held = self.new.held } ≡ collected S.Scheme.model «data».now self.old.held }
         ensures refused { Emptied result self.new.bytes }
+        ensures room { InRoom self.new }
     {
         let joined = self.join(data);
         if joined.is_err() {
@@ -98,6 +101,7 @@ impl<S: Scheme> Collector<S> {
     pub fn report(&self) -> &[u8]
         ensures value { result.now ≡ self.now.bytes }
         ensures len { length result.now ≤ 8064 }
+        ensures room { InRoom self.now }
     {
         self.store.bytes()
     }

@@ -39,6 +39,7 @@ impl Store {
     pub fn add(&mut self, part: &[u8]) -> Option<()>
         ensures answer { result ≡ (if nat_le (length (self.old ++ part.now)) 8064 then Some tt else None) }
         ensures bytes { self.new ≡ (if nat_le (length (self.old ++ part.now)) 8064 then self.old ++ part.now else self.old) }
+        ensures most { length self.new ≤ 8064 }
     {
         if part.len() > 8064 - self.len {
             return None;

@@ -1,5 +1,6 @@
 // The link itself.
 ghost use Rattle.std.specs.Prelude.{◌≡◌, ℕ, ◌≤◌, [], length};
+ghost use Rattle.joining.specs.Joining.{InRoom};
 ghost use Rattle.reading.specs.Readings.{reading as reading_by};
 ghost use Rattle.fixes.specs.Views.{enter, board_of};
 ghost use Rattle.fixes.specs.Ranking.{leads};
@@ -10,7 +11,6 @@ ghost use Rattle.protocol.specs.Runs.{EndsIdle};
 ghost use Rattle.link.specs.Faults.{look_of};
 ghost use Rattle.link.specs.Fixing.{fix_of};
 ghost use Rattle.link.specs.Routes.{opened};
-ghost use Rattle.link.specs.Views.{state_of, answer_of};
 
 use crate::answer::Answer;
 use crate::fault::LinkFault;
@@ -25,8 +25,9 @@ use paging::scheme::Scheme;
 const START: u8 = 2;
 
 // No `impl Model`: seen through one, the board would be a list, and no longer known from its type to be in rank
-// order and of at most 32 fixes. So contracts see a link by `state_of`. They name the two schemes, the reading, the
-// fix and the entering of a fix each time: a promise is over these, and a word for them would hide it.
+// order and of at most 32 fixes; nor would it be known how much is held at most. So contracts see a link by
+// `state_of`. They name the two schemes, the reading, the fix and the entering of a fix each time: a promise is over
+// these, and a word for them would hide it.
 #[derive(Drop)]
 pub struct Link<A, B> {
     held: HeldBytes,
@@ -34,9 +35,14 @@ pub struct Link<A, B> {
     first: Collector<A>,
     second: Collector<B>,
     board: FixBoard,
+    ghost held_within: { length held ≤ 522 },
+    ghost first_within: { InRoom first },
+    ghost second_within: { InRoom second },
 }
 
 impl<A: Scheme, B: Scheme> Link<A, B> {
+    ghost use Rattle.link.specs.Views.{state_of, answer_of};
+
     // A new link. Whatever pulls, forgets and looks it then goes through: a report behind 257 zero bytes
     // is delivered; every report delivered has its pages whole among the bytes taken; the board holds the
     // best of the positions delivered and read; no page is refused for want of room.

@@ -1,5 +1,6 @@
 // A lawful packet on its way: to its scheme's collector, to the buffer, to the board.
 ghost use Rattle.std.specs.Prelude.{◌≡◌, ℕ, ◌≤◌, length};
+ghost use Rattle.joining.specs.Joining.{InRoom};
 ghost use Rattle.reading.specs.Readings.{reading as reading_by};
 ghost use Rattle.fixes.specs.Views.{board_of, enter};
 ghost use Rattle.protocol.specs.Pulls.{put, board_with};
@@ -54,7 +55,8 @@ fn join<S: Scheme>(
     data: &[u8],
     buffer: &mut [u8; REPORT],
 ) -> Answer
-    ensures { record { answer = answer_of result; held = to.new.held; board = board_of board.new; buffer = buffer.new } ≡ joint reading_by fix_of enter S.Scheme.model «data».now to.old.held (board_of board.old) buffer.old }
+    ensures page { record { answer = answer_of result; held = to.new.held; board = board_of board.new; buffer = buffer.new } ≡ joint reading_by fix_of enter S.Scheme.model «data».now to.old.held (board_of board.old) buffer.old }
+    ensures room { InRoom to.new }
 {
     match to.add(data) {
         Ok(Step::More(number, total)) => Answer::Page {
@@ -85,8 +87,12 @@ pub(crate) fn send<A: Scheme, B: Scheme>(
     packet: Packet<'_>,
     buffer: &mut [u8; REPORT],
 ) -> Answer
-    requires { length packet.data.now ≤ 255 }
-    ensures { record { answer = answer_of result; first = first.new.held; second = second.new.held; board = board_of board.new; buffer = buffer.new } ≡ route A.Scheme.model B.Scheme.model reading_by fix_of enter first.old.held second.old.held (board_of board.old) (record { status = packet.entry.status; type = packet.entry.kind; content = packet.entry.data.now }) buffer.old }
+    requires size { length packet.data.now ≤ 255 }
+    requires first_room { InRoom first.old }
+    requires second_room { InRoom second.old }
+    ensures packet { record { answer = answer_of result; first = first.new.held; second = second.new.held; board = board_of board.new; buffer = buffer.new } ≡ route A.Scheme.model B.Scheme.model reading_by fix_of enter first.old.held second.old.held (board_of board.old) (record { status = packet.entry.status; type = packet.entry.kind; content = packet.entry.data.now }) buffer.old }
+    ensures first_room { InRoom first.new }
+    ensures second_room { InRoom second.new }
 {
     if packet.kind == A::TYPE {
         return join(first, board, packet.data, buffer);

@@ -2,6 +2,7 @@ use Rattle.std.proofs.Common.{◌≡◌, ◌+◌, ◌-◌, ◌≤◌, ◌++◌, 
 use Rattle.std.proofs.lemmas.List.{length-take-le}
 use Rattle.std.proofs.lemmas.Slice.{overwrites, between_is}
 use borrow.Rule.Slice.PartMut.{put_mid, mid_of}
+use Rattle.held.specs.declared.bytes.TheConstants.{ROOM}
 use Rattle.held.proofs.Rows.{length_held, lengthened}
 use Rattle.held.proofs.Fills.{Filled, filled}
 use Rattle.held.proofs.bytes.HeldBytes.fill.Goals as goal
@@ -15,7 +16,7 @@ returns g c =
     let r = c.take_into-taken.result in
     let e = c.take_into-taken.ensures in
     let s0 = c.self.inside in
-    let kept : (drop s.start (take s.end s.bytes) ≡ h) × (s.start ≤ s.end) × (s.end ≤ 522) × (s.start + c.args.n ≤ 522) × (length s.bytes ≡ 522) =
+    let kept : (drop s.start (take s.end s.bytes) ≡ h) × (s.start ≤ s.end) × (s.end ≤ ROOM) × (s.start + c.args.n ≤ ROOM) × (length s.bytes ≡ ROOM) =
     elim c.if-self-n.branch [
       | then-self-n w ↦
           let moved : take (s0.end - s0.start) w.copy_within.new.self ≡ drop s0.start (take s0.end s0.bytes) = search (rules, overwrites, between_is, w.copy_within.ensures.after) in
@@ -32,4 +33,5 @@ returns g c =
           ∙ lengthened s.bytes s.start s.end (s.start + c.args.n - s.end) (take r v) _ r came (omega arith) (omega arith)
           ∙ ap (λ x. x ++ take r v) kept.0 ∙ f.held;
       waiting = e.waits ∙ f.waiting;
+      most = simp (length-drop, length-take) (omega (arith, e.count));
     }

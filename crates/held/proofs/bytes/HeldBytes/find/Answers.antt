@@ -1,4 +1,4 @@
-use Rattle.std.proofs.Common.{◌≡◌, [], ◌∷◌, take, set, sym, ap, ◌∙◌, arith}
+use Rattle.std.proofs.Common.{◌≡◌, [], ◌∷◌, length, take, set, sym, ap, ◌∙◌, arith}
 use Rattle.held.proofs.Finds.{in_held, in_line, head_some, head_none}
 use Rattle.std.proofs.lemmas.List.{take_more_set}
 use Rattle.held.proofs.bytes.HeldBytes.find.Goals as goal
@@ -7,7 +7,7 @@ pub returns-in-Some : goal.returns-in-Some
 returns-in-Some g c =
     let f = c.in-Some.ensures in
     let r = in_held c.args.in_step c.args.self.now (g.L.Line.waiting c.args.line.now) c.in-Some.b f.answer in
-    record { held = f.held ∙ r.held; waiting = r.waiting; answer = r.answer }
+    record { held = f.held ∙ r.held; waiting = r.waiting; answer = r.answer; most = f.most }
 
 pub returns-in_err-b : goal.returns-in_err-b
 returns-in_err-b g c =
@@ -18,6 +18,7 @@ returns-in_err-b g c =
       held = none.held ∙ head_none _ none.answer ∙ sym (ap (take 1) (head_none _ f.answer)) ∙ r.held;
       waiting = f.waiting ∙ r.waiting;
       answer = c.from_residual.ensures ∙ f.answer ∙ r.answer;
+      most = none.most;
     }
 
 pub returns : goal.returns
@@ -31,4 +32,5 @@ returns g c =
       held = one ∙ sym (ap (take 1) (head_some _ b f.answer)) ∙ r.held;
       waiting = f.waiting ∙ r.waiting;
       answer = f.answer ∙ r.answer;
+      most = omega (arith, ap length one);
     }

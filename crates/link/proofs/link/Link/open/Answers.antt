@@ -18,7 +18,7 @@ returns-in_default g c =
     let h2 = c.gather.new.self in
     opened_short g.A.Scheme.model g.B.Scheme.model reading fix_of enter l v c.args.buffer.now h2 (g.L.Line.waiting c.gather.new.line)
     (record { held = c.gather.ensures.held; waiting = c.gather.ensures.waiting }) c.len.result
-    (ap front (sym c.all.ensures) ∙ (rw c.in_default.is at c.read.ensures)) c.len.ensures.count
+    (ap front (sym c.all.ensures.value) ∙ (rw c.in_default.is at c.read.ensures)) c.len.ensures.count
 
 pub returns-in-Err : goal.returns-in-Err
 returns-in-Err g c =
@@ -31,9 +31,9 @@ returns-in-Err g c =
     let v2 = g.L.Line.waiting c.gather.new.line in
     let f : Filled (claimed (l.held ++ v)) h2 v2 l.held v = record { held = c.gather.ensures.held; waiting = c.gather.ensures.waiting } in
     let x = c.all.result.now in
-    let at = broken_by x (l.held ++ v) c.in-Err.fault (ap front c.all.ensures ∙ same_front a b reading fix_of enter l v buf h2 v2 f) (ap (λ y. get_or y 3 0) c.all.ensures ∙ same_size a b reading fix_of enter l v buf h2 v2 f) (rw c.in-Err.is at c.in-Some.ensures) in
+    let at = broken_by x (l.held ++ v) c.in-Err.fault (ap front c.all.ensures.value ∙ same_front a b reading fix_of enter l v buf h2 v2 f) (ap (λ y. get_or y 3 0) c.all.ensures.value ∙ same_size a b reading fix_of enter l v buf h2 v2 f) (rw c.in-Err.is at c.in-Some.ensures) in
     ap (λ r. out (refused (link_refusal r)) c.pass.new.self false l.first l.second l.board v2 buf) c.into.ensures
-    ∙ opened_broken a b reading fix_of enter l v buf h2 v2 f (packet_refusal c.in-Err.fault) c.pass.new.self at c.pass.ensures
+    ∙ opened_broken a b reading fix_of enter l v buf h2 v2 f (packet_refusal c.in-Err.fault) c.pass.new.self at c.pass.ensures.held
 
 pub returns-in-Ok : goal.returns-in-Ok
 returns-in-Ok g c =
@@ -52,4 +52,4 @@ returns-in-Ok g c =
     let same : p ≡ parsed x = same_packet q.status q.kind q.data.now x is.1 is.2 is.3 in
     opened_lawful a b reading fix_of enter l v buf h2 v2 f p (length q.data.now + 6) c.pass-in-Ok.new.self
     (record { answer = answer_of c.send-answer.result; first = c.send-answer.new.first.held; second = c.send-answer.new.second.held; board = board_of c.send-answer.new.board; buffer = c.send-answer.new.buffer })
-    (ap front (sym c.all.ensures) ∙ is.0 ∙ ap (λ y. lawful (parsed y)) c.all.ensures) (same ∙ ap parsed c.all.ensures) refl c.pass-in-Ok.ensures c.send-answer.ensures
+    (ap front (sym c.all.ensures.value) ∙ is.0 ∙ ap (λ y. lawful (parsed y)) c.all.ensures.value) (same ∙ ap parsed c.all.ensures.value) refl c.pass-in-Ok.ensures.held c.send-answer.ensures.packet

@@ -47,4 +47,4 @@ returns g c =
     let v1 = g.L.Line.waiting c.find.new.line in
     let h2 = c.pass.new.self in
     ap (λ x. out (signal c.in-Some-find.b) h2 l.in_step l.first l.second l.board v1 x) (buffer_again 8064 buf room c.in-Some.start.now c.in-Some.ensures.cases.same)
-    ∙ pulled_sign g.A.Scheme.model g.B.Scheme.model reading fix_of enter l (g.L.Line.waiting c.args.line.now) buf h1 v1 f.held f.waiting room c.in-Some-find.b f.answer c.if-b-eq-START.false h2 c.pass.ensures
+    ∙ pulled_sign g.A.Scheme.model g.B.Scheme.model reading fix_of enter l (g.L.Line.waiting c.args.line.now) buf h1 v1 f.held f.waiting room c.in-Some-find.b f.answer c.if-b-eq-START.false h2 c.pass.ensures.held
