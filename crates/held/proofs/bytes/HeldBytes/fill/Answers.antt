@@ -23,14 +23,16 @@ returns g c =
           rw w.self-inside-is (moved ∙ c.self.view_is, omega arith, omega arith, omega arith, w.copy_within.ensures.len ∙ omega arith)
       | else-self-n w ↦ rw w.self-inside-is (c.self.view_is, omega arith, omega arith, omega arith, omega arith)
     ] in
+    let m = c.min-to.ensures in
+    let to : c.min-to.result ≡ s.start + c.args.n = omega arith in
     let long = ap length (sym kept.0) ∙ length_held s.bytes s.start s.end (omega arith) in
-    let free : length (mid_of s.end (s.start + c.args.n - s.end) s.bytes) ≡ c.args.n - length h = simp (length-take, length-drop) (omega arith) in
+    let free : length (mid_of s.end (c.min-to.result - s.end) s.bytes) ≡ c.args.n - length h = simp (length-take, length-drop) (omega arith) in
     let f : Filled c.args.n (h ++ take r v) (drop r v) h v = filled c.args.n h v r (e.count ∙ ap (λ m. min m (length v)) free) in
     let came : length (take r v) ≡ r = length-take-le r v (omega arith) in
     record {
       held =
-          ap (λ ys. drop s.start (take (s.end + r) (put_mid s.end (s.start + c.args.n - s.end) s.bytes ys))) e.places
-          ∙ lengthened s.bytes s.start s.end (s.start + c.args.n - s.end) (take r v) _ r came (omega arith) (omega arith)
+          ap (λ ys. drop s.start (take (s.end + r) (put_mid s.end (c.min-to.result - s.end) s.bytes ys))) e.places
+          ∙ lengthened s.bytes s.start s.end (c.min-to.result - s.end) (take r v) _ r came (omega arith) (omega arith)
           ∙ ap (λ x. x ++ take r v) kept.0 ∙ f.held;
       waiting = e.waits ∙ f.waiting;
       most = simp (length-drop, length-take) (omega (arith, e.count));
