@@ -5,12 +5,12 @@
 #![tactic(auto)]
 
 mod case;
+mod parts;
 mod ranked;
 mod streams;
 
 use case::{Case, low_byte, read_case, scheme_of, source_of};
 use packet::read::read;
-use record_vectors::record_parts::{Parts, records_text, satellites_text};
 use record_vectors::report_texts::{HeaderText, kind_name, report_reading};
 use records::{position, survey};
 use std::fmt::Display;
@@ -63,8 +63,8 @@ fn print_answer(rt: &HostRuntime, case: Case<'_>, bytes: &[u8]) -> io::Result<()
         "header" => tell(rt, HeaderText(scheme.read(bytes))),
         "packet" => tell(rt, PacketText(read(bytes))),
         "double" => print_double(rt, bytes),
-        "satellites" => print_parts(rt, satellites_text(heap, bytes, low)?),
-        "records" => print_parts(rt, records_text(heap, bytes)?),
+        "satellites" => parts::print_satellites(rt, low, bytes),
+        "records" => parts::print_records(rt, bytes),
         "rank" => ranked::print(rt, first, low_byte(second), bytes),
         "signals" => ranked::print_with_time(rt, low, bytes),
         "write-packet" => tell(
@@ -84,13 +84,4 @@ fn print_double(rt: &HostRuntime, bytes: &[u8]) -> io::Result<()> {
         return rt.println(" no double");
     };
     tell(rt, DoubleText(u64::from_be_bytes(bytes)))
-}
-
-// The parts that a cursor hands out, and the refusal where one is refused.
-fn print_parts(rt: &HostRuntime, parts: Parts) -> io::Result<()> {
-    rt.print(parts.text.as_str())?;
-    match parts.refused {
-        Some(refused) => tell(rt, refused),
-        None => println!(rt),
-    }
 }

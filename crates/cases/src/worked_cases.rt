@@ -57,8 +57,14 @@ fn packet(words: &mut Words<'_>) -> anyhow::Result<String> {
 fn pulls(words: &mut Words<'_>) -> anyhow::Result<String> {
     let bytes = all_bytes(words)?;
     let pulls = log(words.heap, bytes.as_slice())?;
-    let lines: Vec<&str> = pulls.as_str().lines().collect(words.heap)?;
-    Ok(lines.as_slice().join(words.heap, ", ")?)
+    let mut text = String::new(words.heap);
+    for line in pulls.as_str().lines() {
+        if !text.is_empty() {
+            text.push_str(", ")?;
+        }
+        text.push_str(line)?;
+    }
+    Ok(text)
 }
 
 fn key(words: &mut Words<'_>) -> anyhow::Result<String> {

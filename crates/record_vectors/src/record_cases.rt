@@ -82,12 +82,10 @@ fn header(words: &mut Words<'_>) -> anyhow::Result<String> {
 fn satellites(words: &mut Words<'_>) -> anyhow::Result<String> {
     let flags = words.number::<u8>()?;
     let body = words.bytes()?;
-    let parts = satellites_text(words.heap, body.as_slice(), flags)?;
-    Ok(parts.or_refusal(words.heap)?)
+    Ok(satellites_text(words.heap, body.as_slice(), flags)?)
 }
 
 fn records(words: &mut Words<'_>) -> anyhow::Result<String> {
     let body = words.bytes()?;
-    let parts = records_text(words.heap, body.as_slice())?;
-    Ok(parts.or_refusal(words.heap)?)
+    Ok(records_text(words.heap, body.as_slice())?)
 }

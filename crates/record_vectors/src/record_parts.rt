@@ -16,7 +16,7 @@ fn part(bytes: Option<&[u8]>) -> Hex<'_> {
 
 // PLACE:PRN:FLAGS1:FLAGS2:ELEVATION:AZIMUTH:L1:L2:EXTRA
 #[derive(Clone, Copy, Debug, PartialEq, Eq)]
-struct SatelliteText<'a>(Satellite<'a>);
+pub struct SatelliteText<'a>(pub Satellite<'a>);
 
 impl fmt::Display for SatelliteText<'_> {
     fn fmt<W: fmt::Write>(&self, f: &mut fmt::Formatter<W>) -> fmt::Result {
@@ -41,7 +41,7 @@ impl fmt::Display for SatelliteText<'_> {
 
 // PLACE:SORT:TYPE:DATA
 #[derive(Clone, Copy, Debug, PartialEq, Eq)]
-struct RecordText<'a>(Record<'a>);
+pub struct RecordText<'a>(pub Record<'a>);
 
 impl fmt::Display for RecordText<'_> {
     fn fmt<W: fmt::Write>(&self, f: &mut fmt::Formatter<W>) -> fmt::Result {
@@ -56,65 +56,38 @@ impl fmt::Display for RecordText<'_> {
     }
 }
 
-// The parts up to the end or to the first that is refused, a space before each.
-#[derive(Drop)]
-pub struct Parts {
-    pub text: String,
-    pub refused: Option<Refused>,
-}
-
-impl Parts {
-    fn refused(text: String, fault: RecordFault) -> Parts {
-        Parts {
-            text,
-            refused: Some(Refused(fault.into())),
-        }
-    }
-
-    // The parts with a space between two, `-` for none; where one is refused, the refusal alone.
-    pub(crate) fn or_refusal(self, heap: Global) -> Result<String, AllocError> {
-        match self.refused {
-            Some(refused) => refused.to_string(heap),
-            None => self
-                .text
-                .as_str()
-                .strip_prefix(' ')
-                .unwrap_or("-")
-                .to_string(heap),
-        }
-    }
-}
-
-pub fn satellites_text(heap: Global, body: &[u8], flags: u8) -> Result<Parts, AllocError> {
+pub fn satellites_text(heap: Global, body: &[u8], flags: u8) -> Result<String, AllocError> {
     match Satellites::new(body, flags) {
         Ok(satellites) => each_part(heap, satellites.map(|found| found.map(SatelliteText))),
-        Err(fault) => Ok(Parts::refused(String::new(heap), fault)),
+        Err(fault) => Refused(fault.into()).to_string(heap),
     }
 }
 
-pub fn records_text(heap: Global, body: &[u8]) -> Result<Parts, AllocError> {
+pub fn records_text(heap: Global, body: &[u8]) -> Result<String, AllocError> {
     match Records::new(body) {
         Ok(records) => each_part(heap, records.map(|found| found.map(RecordText))),
-        Err(fault) => Ok(Parts::refused(String::new(heap), fault)),
+        Err(fault) => Refused(fault.into()).to_string(heap),
     }
 }
 
+// The parts with a space between two, `-` for none; where one is refused, the refusal alone.
 fn each_part<T: fmt::Display + Drop, I: Iterator<Item = Result<T, RecordFault>> + Drop>(
     heap: Global,
     cursor: I,
-) -> Result<Parts, AllocError>
+) -> Result<String, AllocError>
     requires can { I.can_next cursor }
     requires ends { IsFinite (I.remaining cursor) }
 {
     let mut text = String::new(heap);
     for found in cursor {
         match found {
+            Ok(part) if text.is_empty() => write!(text, "{part}")?,
             Ok(part) => write!(text, " {part}")?,
-            Err(fault) => return Ok(Parts::refused(text, fault)),
+            Err(fault) => return Refused(fault.into()).to_string(heap),
         }
     }
-    Ok(Parts {
-        text,
-        refused: None,
-    })
+    if text.is_empty() {
+        text.push_str("-")?;
+    }
+    Ok(text)
 }

@@ -42,7 +42,8 @@ fn without_hash(heap: Global, answer: &str) -> anyhow::Result<String> {
     Ok(format!(in heap; "{count} fold {fold}")?)
 }
 
-// A match on the case's word, since each takes other words behind it.
+// A match on the case's word, since each takes other words behind it. A case's destination is made before its last
+// word is read: where there is no memory for it, that is what is said.
 fn written(heap: Global, case: &str) -> anyhow::Result<String> {
     let mut words = Words::of(heap, case);
     match words.word()? {
@@ -56,17 +57,19 @@ fn packet_case(words: &mut Words<'_>) -> anyhow::Result<String> {
     let status = words.byte()?;
     let kind = words.byte()?;
     let room = words.number::<u32>()?;
+    let out = destination(words.heap, room)?;
     let data = words.source()?;
-    words.text(packet_written(words.heap, room, status, kind, data.as_slice())?)
+    words.text(packet_into(out, status, kind, data.as_slice()))
 }
 
 fn pages_case(words: &mut Words<'_>) -> anyhow::Result<String> {
     let packet_type = words.byte()?;
     let key = words.number::<u32>()?;
     let room = words.number::<u32>()?;
+    let out = destination(words.heap, room)?;
     let report = words.source()?;
     let scheme = PageScheme::try_from(u32::from(packet_type))?;
-    words.text(pages_written(words.heap, room, scheme, key, report.as_slice())?)
+    words.text(pages_into(out, scheme, key, report.as_slice()))
 }
 
 // What the packet writer makes of a destination of so many bytes.
@@ -79,9 +82,7 @@ pub fn packet_written(
 ) -> Result<WriterAnswer, AllocError>
     ensures { IfOk result (λ w. (w.answer ≡ sent (length «data».now) room) × (w.out.items ≡ put w.answer (frame (record { status = status; type = kind; content = «data».now })) (replicate room FILL))) }
 {
-    let mut out = destination(heap, room)?;
-    let answer = write(status, kind, data, out.as_mut_slice());
-    Ok(WriterAnswer { answer, out })
+    Ok(packet_into(destination(heap, room)?, status, kind, data))
 }
 
 // The same of the page writer.
@@ -94,9 +95,25 @@ pub fn pages_written(
 ) -> Result<WriterAnswer, AllocError>
     ensures { IfOk result (λ w. (w.answer ≡ report_sent (model_of scheme) key report.now room) × (w.out.items ≡ put w.answer (written (model_of scheme) key report.now) (replicate room FILL))) }
 {
-    let mut out = destination(heap, room)?;
+    Ok(pages_into(destination(heap, room)?, scheme, key, report))
+}
+
+// What the packet writer makes of a destination.
+fn packet_into(mut out: Vec<u8>, status: u8, kind: u8, data: &[u8]) -> WriterAnswer
+    ensures answer { result.answer ≡ sent (length «data».now) (length out.items) }
+    ensures out { result.out.items ≡ put result.answer (frame (record { status = status; type = kind; content = «data».now })) out.items }
+{
+    let answer = write(status, kind, data, out.as_mut_slice());
+    WriterAnswer { answer, out }
+}
+
+// The same of the page writer.
+fn pages_into(mut out: Vec<u8>, scheme: PageScheme, key: u32, report: &[u8]) -> WriterAnswer
+    ensures answer { result.answer ≡ report_sent (model_of scheme) key report.now (length out.items) }
+    ensures out { result.out.items ≡ put result.answer (written (model_of scheme) key report.now) out.items }
+{
     let answer = scheme.write(key, report, out.as_mut_slice());
-    Ok(WriterAnswer { answer, out })
+    WriterAnswer { answer, out }
 }
 
 // A destination of so many bytes.

@@ -1,12 +1,15 @@
 // Bytes from text.
-use anyhow::{Context, ensure};
+use anyhow::{bail, ensure};
 use std::alloc::{AllocError, Global};
 
 // Adds the bytes that the text has, two hex digits each; white space means nothing.
 pub fn add_hex(bytes: &mut Vec<u8>, text: &str) -> anyhow::Result<()> {
     let mut high = None;
-    for digit in text.chars().filter(|digit| !digit.is_ascii_whitespace()) {
-        let low = digit.to_digit(16).context("not a hex digit")? as u8;
+    for byte in text.bytes().filter(|byte| !byte.is_ascii_whitespace()) {
+        let Some(low) = char::from(byte).to_digit(16) else {
+            bail!("not a hex digit");
+        };
+        let low = low as u8;
         high = match high {
             None => Some(low),
             Some(first) => {
